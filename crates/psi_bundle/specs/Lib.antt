@@ -1,0 +1,8 @@
+pub mod Tags
+pub mod Labels
+pub mod Bins
+pub mod Versions
+pub mod Steps
+pub mod Histories
+pub mod Planes
+pub mod Bodies

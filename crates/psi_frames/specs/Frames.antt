@@ -1,0 +1,102 @@
+-- Frames as bytes (the format is this project's own). Every number is big-endian.
+use Rattle.std.specs.Prelude.{◌≡◌, ℕ, ◌+◌, ◌-◌, ◌≤◌, ◌<◌, ◌^◌, Bool, ◌&&◌, not, nat_eq, nat_lt, nat_le, List, [], ◌∷◌, ◌++◌, length, take, drop, slice_index, Option, Some, None, if◌then◌else◌, IsTrue}
+use Rattle.std.specs.List.{All, flat_map}
+use Rattle.byteorder.specs.Endian.{big_number, big_bytes}
+use Rattle.psi_frames.specs.declared.frame.Frame.{Frame}
+use Rattle.psi_frames.specs.declared.reply.Reply.{Reply}
+use Rattle.psi_frames.specs.declared.reply.Reply.TheVariants as reply
+
+-- kinds of request
+abbrev pub put_kind : ℕ
+put_kind = 1
+
+abbrev pub drop_kind : ℕ
+drop_kind = 2
+
+abbrev pub ask_kind : ℕ
+ask_kind = 3
+
+abbrev pub repack_kind : ℕ
+repack_kind = 4
+
+abbrev pub go_kind : ℕ
+go_kind = 5
+
+-- the bytes that the length word counts before the body: the kind, the session and the number
+abbrev pub head_bytes : ℕ
+head_bytes = 7
+
+-- the greatest length word of a frame
+abbrev pub greatest_length : ℕ
+greatest_length = 196608015
+
+-- a frame with this kind, session, number and body, as bytes
+unfoldable pub spelled : (kind session number : ℕ) → List ℕ → List ℕ
+spelled kind session number body = big_bytes 4 (head_bytes + length body) ++ big_bytes 1 kind ++ big_bytes 2 session ++ big_bytes 4 number ++ body
+
+-- a request frame as bytes
+abbrev pub frame_bytes : Frame → List ℕ
+frame_bytes f = spelled f.kind f.session f.number f.body
+
+-- the text of some frames: one after another
+abbrev pub frames_bytes : List Frame → List ℕ
+frames_bytes fs = flat_map frame_bytes fs
+
+-- fields in their ranges, a body of bytes, and a length that a frame may have
+pub record IsSpellable (f : Frame) : Type 0 where
+  pub kind : f.kind < 2 ^ 8
+  pub session : f.session < 2 ^ 16
+  pub number : f.number < 2 ^ 32
+  pub body : All (λ b. b < 2 ^ 8) f.body
+  pub length : head_bytes + length f.body ≤ greatest_length
+
+-- the kinds of the table of requests; a Go frame has no body
+abbrev pub is_request_kind : ℕ → Bool
+is_request_kind kind = nat_le put_kind kind && nat_le kind go_kind
+
+-- a frame of the table
+pub record IsFrame (f : Frame) : Type 0 where
+  pub spellable : IsSpellable f
+  pub kind : IsTrue (is_request_kind f.kind)
+  pub go : f.kind ≡ go_kind → f.body ≡ []
+
+-- why bytes begin no whole frame
+pub data Fault : Type 0 where
+  Short : Fault
+  Length : (n : ℕ) → Fault
+  Kind : (k : ℕ) → Fault
+
+-- a length word that a frame may have
+abbrev pub is_frame_length : ℕ → Bool
+is_frame_length n = nat_le head_bytes n && nat_le n greatest_length
+
+-- What keeps a whole frame from the front of some bytes: none where one begins them. The length word comes first, then the kind.
+unfoldable pub front_fault : List ℕ → Option Fault
+front_fault bytes =
+    let n = big_number 4 bytes in
+    let kind = slice_index bytes 4 in
+    if nat_lt (length bytes) 4 then Some Short
+    else (if not (is_frame_length n) then Some (Length n)
+    else (if nat_lt (length bytes) 5 then Some Short
+    else (if not (is_request_kind kind) then Some (Kind kind)
+    else (if nat_eq kind go_kind && not (nat_eq n head_bytes) then Some (Length n)
+    else (if nat_lt (length bytes) (4 + n) then Some Short else None)))))
+
+-- The bytes are these whole frames, and then a rest that is nothing, or that begins no whole frame for this fault.
+pub record IsCut (bytes : List ℕ) (frames : List Frame) (rest : List ℕ) (fault : Option Fault) : Type 0 where
+  pub whole : bytes ≡ frames_bytes frames ++ rest
+  pub each : All IsFrame frames
+  pub none : fault ≡ None → rest ≡ []
+  pub first : (f : Fault) → fault ≡ Some f → front_fault rest ≡ Some f
+
+-- a reply frame as bytes
+abbrev pub reply_bytes : (session number : ℕ) → Reply → List ℕ
+reply_bytes session number (reply.Added place) = spelled 129 session number (big_bytes 8 place)
+reply_bytes session number (reply.Replaced place) = spelled 130 session number (big_bytes 8 place)
+reply_bytes session number (reply.Removed place) = spelled 131 session number (big_bytes 8 place)
+reply_bytes session number (reply.Absent place) = spelled 132 session number (big_bytes 8 place)
+reply_bytes session number (reply.Full place planes cells) = spelled 133 session number (big_bytes 8 place ++ big_bytes 4 planes ++ big_bytes 4 cells)
+reply_bytes session number (reply.Answer place body) = spelled 134 session number (big_bytes 8 place ++ body)
+reply_bytes session number (reply.Repacked place from before after) = spelled 135 session number (big_bytes 8 place ++ big_bytes 8 from ++ big_bytes 2 before ++ big_bytes 2 after)
+reply_bytes session number (reply.Moved place from stamp) = spelled 136 session number (big_bytes 8 place ++ big_bytes 8 from ++ big_bytes 8 stamp)
+reply_bytes session number (reply.Refused code) = spelled 137 session number (big_bytes 1 code)

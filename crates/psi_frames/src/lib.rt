@@ -1,0 +1,13 @@
+//! Request and reply frames as bytes, and what replies serve what requests.
+//!
+//! A frame is a 32-bit length, which counts the bytes after it; an 8-bit kind; a 16-bit session; a 32-bit
+//! number, which the reply repeats; and the body. All numbers are big-endian.
+#![tactic(auto)]
+
+mod body;
+mod frame;
+mod reply;
+
+pub use crate::body::Body;
+pub use crate::frame::Frame;
+pub use crate::reply::Reply;
