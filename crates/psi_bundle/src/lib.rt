@@ -11,6 +11,8 @@ mod label;
 mod member;
 mod position_list;
 mod tag;
+#[cfg(test)]
+mod tests;
 
 pub use crate::bundle::Bundle;
 pub use crate::history::{Answer, Call, Entry};

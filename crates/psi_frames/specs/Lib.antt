@@ -2,3 +2,5 @@ pub mod Frames
 pub mod Requests
 pub mod Rounds
 pub mod Served
+pub mod OneLane
+pub mod LaneLaws

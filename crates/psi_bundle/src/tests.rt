@@ -1,0 +1,95 @@
+//! Worked values, and each call once.
+use crate::{Bundle, Label, Member, Positions, Tag, positions, slots, tag_bytes, tag_from, tag_of};
+
+#[test]
+fn tags_of_known_items(rt: HostRuntime) {
+    // The digests are FIPS 180-4's of `abc` and of the empty message; the numbers were read off them by hand.
+    let rows: [(&[u8], [u8; 4], [u16; 5], [u16; 3]); 2] = [
+        (
+            b"abc",
+            [0xba, 0x78, 0x16, 0xbf],
+            [47736, 5823, 36609, 53226, 16705],
+            [178, 571, 608],
+        ),
+        (
+            b"",
+            [0xe3, 0xb0, 0xc4, 0x42],
+            [58288, 50242, 39164, 7188, 39675],
+            [135, 272, 803],
+        ),
+    ];
+    for (item, front, values, places) in rows {
+        let tag = tag_of(item);
+        assert_eq!(rt; &tag_bytes(&tag)[..4], front.as_slice());
+        assert_eq!(rt; slots(&tag), values);
+        assert_eq!(rt; positions(&tag, 1).list(), places.as_slice());
+    }
+}
+
+#[test]
+fn positions_rise_without_repeats(rt: HostRuntime) {
+    let rows: [(u16, u16, u16, &[u16]); 6] = [
+        (1, 2, 3, &[1, 2, 3]),
+        (3, 2, 1, &[1, 2, 3]),
+        (2, 3, 1, &[1, 2, 3]),
+        (5, 5, 4, &[4, 5]),
+        (4, 5, 5, &[4, 5]),
+        (7, 7, 7, &[7]),
+    ];
+    for (a, b, c, want) in rows {
+        assert_eq!(rt; Positions::of(a, b, c).list(), want);
+    }
+}
+
+#[test]
+fn labels_have_at_most_40_bytes(rt: HostRuntime) {
+    let bytes = [9; 41];
+    for len in 0..42usize {
+        match Label::of(&bytes[..len.min(41)]) {
+            Some(label) => assert_eq!(rt; label.bytes().len(), len),
+            None => assert_eq!(rt; len.min(41), 41),
+        }
+    }
+}
+
+// A made-up tag: the same slot value in each part, and zeros behind.
+fn made_up(value: u8) -> Tag {
+    let mut bytes = [0; 22];
+    for part in 0..5usize {
+        bytes[2 * part + 1] = value;
+    }
+    tag_from(bytes)
+}
+
+#[test]
+fn a_bin_takes_what_it_accepts(rt: HostRuntime) {
+    let alloc = rt.alloc();
+    let none = Label::of(b"").expect(&rt, "short");
+    let some = Label::of(b"label").expect(&rt, "short");
+    let (first, second) = (made_up(1), made_up(2));
+    let empty = Bundle::empty(alloc).expect(&rt, "memory");
+    assert!(rt; empty.accepts(818, &first, 1) && !empty.accepts(818, &first, 0));
+    let member = Member {
+        tag: first,
+        label: none,
+    };
+    let one = empty.add(alloc, 818, member, 2).expect(&rt, "memory");
+    assert!(rt; one.holds(818, &first) && !one.holds(817, &first) && !empty.holds(818, &first));
+    assert!(rt;
+        !one.accepts(818, &first, 2)
+            && one.accepts(818, &second, 2)
+            && !one.accepts(818, &second, 1)
+    );
+    let other = Member {
+        tag: second,
+        label: none,
+    };
+    let two = one.add(alloc, 818, other, 2).expect(&rt, "memory");
+    let mut roots = [0; 3];
+    assert_eq!(rt; two.roots(818, 4, &mut roots), 2);
+    assert_eq!(rt; roots, [1, 2, 0]);
+    let named = two.relabel(alloc, 818, &second, some).expect(&rt, "memory");
+    let labels = named.members(818);
+    assert!(rt; labels[0].label.bytes().is_empty());
+    assert_eq!(rt; labels[1].label.bytes(), b"label".as_slice());
+}
