@@ -1,5 +1,6 @@
 //! Tags: 22 bytes that stand for an item.
 ghost use Rattle.std.specs.Prelude.{◌≡◌, ◌≤◌, ◌<◌, ◌*◌, ◌%◌, ◌+◌, List, ℕ, length, drop};
+ghost use Rattle.std.specs.List.{All};
 ghost use Rattle.byteorder.specs.Endian.{big_number};
 ghost use Rattle.psi_bundle.specs.Tags.{tag_of, slot_values, positions_of};
 
@@ -87,7 +88,9 @@ fn position_at(bytes: &[u8], at: usize, rows: u8) -> u16
 pub fn positions(tag: &Tag, rows: u8) -> Positions
     requires some { 1 ≤ rows }
     requires few { rows ≤ 4 }
-    ensures { result ≡ positions_of rows tag.now }
+    ensures listed { result ≡ positions_of rows tag.now }
+    ensures below { All (λ p. p < 819 * rows) result }
+    ensures few { length result ≤ 3 }
 {
     let bytes = &tag.bytes;
     Positions::of(

@@ -1,5 +1,6 @@
 //! Worked values, and each call once.
 use crate::{Bundle, Label, Member, Positions, Tag, positions, slots, tag_bytes, tag_from, tag_of};
+use std::alloc::Global;
 
 #[test]
 fn tags_of_known_items(rt: HostRuntime) {
@@ -61,35 +62,53 @@ fn made_up(value: u8) -> Tag {
     tag_from(bytes)
 }
 
+// The bundle with one more member in bin 818, where that bin accepts it.
+fn added(alloc: Global, bundle: &Bundle, tag: Tag, label: Label, capacity: u16) -> Option<Bundle> {
+    if !bundle.accepts(818, &tag, capacity) {
+        return None;
+    }
+    bundle.add(alloc, 818, Member { tag, label }, capacity).ok()
+}
+
+// The bundle with another label for the tag in bin 818, where that bin holds it.
+fn renamed(alloc: Global, bundle: &Bundle, tag: Tag, label: Label) -> Option<Bundle> {
+    if !bundle.holds(818, &tag) {
+        return None;
+    }
+    bundle.relabel(alloc, 818, &tag, label).ok()
+}
+
 #[test]
 fn a_bin_takes_what_it_accepts(rt: HostRuntime) {
     let alloc = rt.alloc();
     let none = Label::of(b"").expect(&rt, "short");
-    let some = Label::of(b"label").expect(&rt, "short");
     let (first, second) = (made_up(1), made_up(2));
     let empty = Bundle::empty(alloc).expect(&rt, "memory");
-    assert!(rt; empty.accepts(818, &first, 1) && !empty.accepts(818, &first, 0));
-    let member = Member {
-        tag: first,
-        label: none,
-    };
-    let one = empty.add(alloc, 818, member, 2).expect(&rt, "memory");
+    assert!(rt; added(alloc, &empty, first, none, 0).is_none());
+    let one = added(alloc, &empty, first, none, 2).expect(&rt, "accepted");
     assert!(rt; one.holds(818, &first) && !one.holds(817, &first) && !empty.holds(818, &first));
-    assert!(rt;
-        !one.accepts(818, &first, 2)
-            && one.accepts(818, &second, 2)
-            && !one.accepts(818, &second, 1)
-    );
-    let other = Member {
-        tag: second,
-        label: none,
-    };
-    let two = one.add(alloc, 818, other, 2).expect(&rt, "memory");
-    let mut roots = [0; 3];
+    assert!(rt; added(alloc, &one, first, none, 2).is_none());
+    assert!(rt; added(alloc, &one, second, none, 1).is_none());
+    let two = added(alloc, &one, second, none, 2).expect(&rt, "accepted");
+    let members = two.members(818).len();
+    assert_eq!(rt; members, 2);
+    let mut roots = [0; 2];
     assert_eq!(rt; two.roots(818, 4, &mut roots), 2);
-    assert_eq!(rt; roots, [1, 2, 0]);
-    let named = two.relabel(alloc, 818, &second, some).expect(&rt, "memory");
-    let labels = named.members(818);
-    assert!(rt; labels[0].label.bytes().is_empty());
-    assert_eq!(rt; labels[1].label.bytes(), b"label".as_slice());
+    assert_eq!(rt; roots, [1, 2]);
+}
+
+#[test]
+fn a_label_is_replaced(rt: HostRuntime) {
+    let alloc = rt.alloc();
+    let (none, some) = (
+        Label::of(b"").expect(&rt, "short"),
+        Label::of(b"label").expect(&rt, "short"),
+    );
+    let empty = Bundle::empty(alloc).expect(&rt, "memory");
+    let one = added(alloc, &empty, made_up(3), none, 1).expect(&rt, "accepted");
+    let named = renamed(alloc, &one, made_up(3), some).expect(&rt, "held");
+    match named.members(818) {
+        [only] => assert_eq!(rt; only.label.bytes(), b"label".as_slice()),
+        _ => assert!(rt; false),
+    }
 }

@@ -1,6 +1,13 @@
 //! Arithmetic modulo the numbers of the encryption scheme.
 #![tactic(auto)]
 
+mod arithmetic;
+mod inverse;
 mod numbers;
 
+pub use arithmetic::{add, mul, pow, sub};
+pub use inverse::inv_t;
 pub use numbers::{DELTA, Modulus, N, Q, Q1, Q2, R, T, constants_agree, value};
+
+#[cfg(test)]
+mod tests;

@@ -1,0 +1,2 @@
+pub mod TagMaps
+pub mod Rows

@@ -1,0 +1,2 @@
+pub mod FirstInput
+pub mod Sets
