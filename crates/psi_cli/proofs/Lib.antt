@@ -1,2 +1,5 @@
-pub mod TagMaps
+pub mod Convolutions
+pub mod Filling
 pub mod Rows
+pub mod TagMaps
+pub mod Walks

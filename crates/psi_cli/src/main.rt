@@ -1,5 +1,8 @@
+//! The program: a sender of private set intersection over framed requests.
 #![tactic(auto)]
 
+mod packing;
+mod product;
 mod set;
 
 fn main(rt: HostRuntime) {

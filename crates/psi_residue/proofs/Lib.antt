@@ -1,3 +1,4 @@
 pub mod Sums
+pub mod Polynomials
 pub mod Powers
 pub mod Inverses

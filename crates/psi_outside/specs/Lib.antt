@@ -1,0 +1,6 @@
+pub mod Causes
+pub mod Streams
+pub mod Names
+pub mod Plans
+pub mod InMemory
+pub mod Adapters

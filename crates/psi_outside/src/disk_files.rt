@@ -1,0 +1,68 @@
+ghost use Rattle.std.specs.Prelude.{◌≡◌, ◌<◌, ◌≤◌, ◌^◌, length, None, IfOk, IfErr, IfSome, IsErrOf};
+ghost use Rattle.psi_outside.specs.Adapters.{disk_faults};
+ghost use Rattle.psi_outside.specs.Names.{CarriesLimit};
+
+use crate::{Failed, FileFault, Files};
+use std::alloc::Global;
+use std::fs::File;
+use std::io::{ErrorKind, Read};
+use std::rt::Files as Disk;
+
+/// The files that a runtime reads. It tells nothing of their bytes, and counts each read that failed.
+#[derive(Drop)]
+pub struct DiskFiles<'r, R> {
+    rt: &'r R,
+    faults: u64,
+}
+
+impl<'r, R: Disk> DiskFiles<'r, R> {
+    /// The files that `rt` reads, with no fault yet.
+    pub fn open(rt: &'r R) -> DiskFiles<'r, R>
+        ensures { disk_faults result ≡ 0 }
+    {
+        DiskFiles { rt, faults: 0 }
+    }
+}
+
+impl<'r, R: Disk> Files for DiskFiles<'r, R> {
+    ghost files = { λ _. None };
+
+    ghost faults = { λ s. disk_faults s };
+
+    fn read_file(&mut self, alloc: Global, name: &str, max: u64) -> Result<Vec<u8>, FileFault> {
+        let answer = read_whole(self.rt, alloc, name, max);
+        if let Err(FileFault::Failed) = &answer {
+            self.faults = self.faults.saturating_add(1);
+        }
+        answer
+    }
+}
+
+// Opens the file and reads it to its end.
+fn read_whole<R: Disk>(rt: &R, alloc: Global, name: &str, max: u64) -> Result<Vec<u8>, FileFault>
+    requires { max < 2 ^ 40 }
+    ensures bound { IfOk result (λ bytes. length bytes.items ≤ max) }
+    ensures limit { IfErr result (CarriesLimit max) }
+{
+    match File::open(rt, name) {
+        Ok(file) => read_at_most(file, alloc, max),
+        Err(_) => Err(FileFault::Failed),
+    }
+}
+
+// Reads to the end, but no more than one byte past `max`.
+fn read_at_most<R: Read + Drop>(reader: R, alloc: Global, max: u64) -> Result<Vec<u8>, FileFault>
+    requires { max < 2 ^ 40 }
+    ensures bytes { IfOk result (λ bytes. IfSome (R.remaining reader) (λ left. left ≡ bytes.items)) }
+    ensures bound { IfOk result (λ bytes. length bytes.items ≤ max) }
+    ensures limit { IfErr result (CarriesLimit max) }
+    ensures longer { IfSome (R.remaining reader) (λ left. IsErrOf result (FileFault.TooLong max) → max < length left) }
+{
+    let mut bytes = Vec::new(alloc);
+    match reader.take(max + 1).read_to_end(&mut bytes) {
+        Ok(_) if bytes.len() as u64 <= max => Ok(bytes),
+        Ok(_) => Err(FileFault::TooLong { max }),
+        Err(error) if error.kind() == ErrorKind::OutOfMemory => Err(FileFault::NoMemory),
+        Err(_) => Err(FileFault::Failed),
+    }
+}

@@ -1,0 +1,31 @@
+//! The traits by which the product meets the outside, each with a count of faults: a source and a sink of bytes, files
+//! that are read whole, and a gate that threads pass. Beside each stand an object in memory, which fails when it is
+//! told to, and an adapter over std.
+#![tactic(auto)]
+
+mod disk_files;
+mod faults;
+mod files;
+mod gate;
+mod memory_files;
+mod memory_sink;
+mod memory_source;
+mod plan;
+mod reader_source;
+mod sink;
+mod source;
+#[cfg(test)]
+mod tests;
+mod writer_sink;
+
+pub use disk_files::DiskFiles;
+pub use faults::{Failed, FileFault};
+pub use files::Files;
+pub use gate::{Gate, Open, Point};
+pub use memory_files::MemoryFiles;
+pub use memory_sink::MemorySink;
+pub use memory_source::MemorySource;
+pub use reader_source::ReaderSource;
+pub use sink::Sink;
+pub use source::Source;
+pub use writer_sink::WriterSink;

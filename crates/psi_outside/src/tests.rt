@@ -1,0 +1,217 @@
+ghost use Rattle.std.specs.Prelude.{◌≡◌, ◌<◌, ◌^◌, OnOk};
+ghost use Rattle.std.specs.Io.KnownBytes.{Appends};
+ghost use Rattle.psi_outside.specs.Causes.{HasCause};
+ghost use Rattle.psi_outside.specs.Streams.{IsAllFlushed};
+
+use super::*;
+use std::alloc::{AllocError, Global};
+use std::io::{ErrorKind, Read, Write};
+use std::sync::Wait;
+use std::test::Fail;
+use std::thread::Threads;
+use std::{fs, io};
+
+// What a read with room for four bytes gives, or nothing where it fails.
+fn read_four<S: Source>(alloc: Global, source: &mut S) -> Result<Option<Vec<u8>>, AllocError> {
+    let mut buf = [0; 4];
+    match source.read(&mut buf) {
+        Ok(count) => Ok(Some(buf[..count].to_vec(alloc)?)),
+        Err(Failed) => Ok(None),
+    }
+}
+
+// Writes a text whole and flushes it.
+fn send<K: Sink>(sink: &mut K, text: &[u8]) -> Result<(), Failed>
+    ensures sent { OnOk result (Appends (K.written sink.old) (K.written sink.new) text.now) }
+    ensures flushed { OnOk result (IsAllFlushed (K.written sink.new) (K.flushed sink.new)) }
+    ensures cause { HasCause (K.faults sink.old) (K.faults sink.new) result }
+{
+    let mut rest = text;
+    while !rest.is_empty() {
+        let count = sink.write(rest)?;
+        rest = &rest[count..];
+    }
+    sink.flush()
+}
+
+// Reads a file through the trait.
+fn read_within<F: Files>(
+    alloc: Global,
+    files: &mut F,
+    name: &str,
+    max: u64,
+) -> Result<Vec<u8>, FileFault>
+    requires { max < 2 ^ 40 }
+{
+    files.read_file(alloc, name, max)
+}
+
+#[test]
+fn a_source_in_memory_gives_pieces_and_fails_where_it_is_told(rt: HostRuntime) -> Result<(), Fail> {
+    let alloc = rt.alloc();
+    let bytes = b"abcde".to_vec(alloc)?;
+    let mut source = MemorySource::open(bytes, 2, [1, 4].to_vec(alloc)?);
+    let wants: [Option<&[u8]>; 7] = [
+        Some(b"ab"),
+        None,
+        Some(b"cd"),
+        Some(b"e"),
+        None,
+        Some(b""),
+        Some(b""),
+    ];
+    for (number, want) in wants.iter().enumerate() {
+        let got = read_four(alloc, &mut source)?;
+        assert_eq!(rt;
+            got.as_ref().map(|bytes| bytes.as_slice()),
+            *want,
+            "at read {number}"
+        );
+    }
+    Ok(())
+}
+
+#[test]
+fn a_sink_in_memory_keeps_what_it_takes_and_fails_where_it_is_told(
+    rt: HostRuntime,
+) -> Result<(), Fail> {
+    let alloc = rt.alloc();
+    let mut sink = MemorySink::open(alloc, 6, [1, 3].to_vec(alloc)?)?;
+    // Calls 0 to 3, of which a write and a flush fail.
+    assert_eq!(rt; sink.write(b"abc"), Ok(3));
+    assert_eq!(rt; sink.write(b"d"), Err(Failed));
+    assert_eq!(rt; sink.flush(), Ok(()));
+    assert_eq!(rt; sink.flush(), Err(Failed));
+    // There is room for three more.
+    assert_eq!(rt; send(&mut sink, b"defg"), Err(Failed));
+    assert_eq!(rt; sink.bytes(), b"abc".as_slice());
+    assert_eq!(rt; send(&mut sink, b"def"), Ok(()));
+    assert_eq!(rt; sink.bytes(), b"abcdef".as_slice());
+    Ok(())
+}
+
+#[test]
+fn files_in_memory_are_read_whole_or_refused(rt: HostRuntime) -> Result<(), Fail> {
+    let alloc = rt.alloc();
+    let list = vec![in alloc;
+        (String::from_str(alloc, "full")?, b"abc".to_vec(alloc)?),
+        (String::from_str(alloc, "empty")?, Vec::new(alloc)),
+    ]?;
+    let mut files = MemoryFiles::open(list, [3].to_vec(alloc)?);
+    assert_eq!(rt;
+        read_within(alloc, &mut files, "full", 3)?.as_slice(),
+        b"abc".as_slice()
+    );
+    assert_eq!(rt;
+        read_within(alloc, &mut files, "full", 2),
+        Err(FileFault::TooLong { max: 2 })
+    );
+    assert_eq!(rt;
+        read_within(alloc, &mut files, "missing", 9),
+        Err(FileFault::Failed)
+    );
+    // The fourth read fails.
+    assert_eq!(rt;
+        read_within(alloc, &mut files, "empty", 9),
+        Err(FileFault::Failed)
+    );
+    assert_eq!(rt;
+        read_within(alloc, &mut files, "empty", 0)?.as_slice(),
+        b"".as_slice()
+    );
+    Ok(())
+}
+
+// A reader and a writer that take nothing: the reader fails, and the writer takes no byte and does not flush.
+#[derive(Drop)]
+struct Blocked;
+
+impl Read for Blocked {
+    fn read(&mut self, _buf: &mut [u8]) -> io::Result<usize> {
+        Err(io::Error::from(ErrorKind::BrokenPipe))
+    }
+}
+
+impl Write for Blocked {
+    fn write(&mut self, _buf: &[u8]) -> io::Result<usize> {
+        Ok(0)
+    }
+
+    fn flush(&mut self) -> io::Result<()> {
+        Err(io::Error::from(ErrorKind::BrokenPipe))
+    }
+}
+
+#[test]
+fn readers_and_writers_of_std_serve(rt: HostRuntime) -> Result<(), Fail> {
+    let alloc = rt.alloc();
+    let mut source = ReaderSource::open(b"abcde".as_slice());
+    for want in [b"abcd".as_slice(), b"e".as_slice(), b"".as_slice()] {
+        let got = read_four(alloc, &mut source)?.ok_or("failed")?;
+        assert_eq!(rt; got.as_slice(), want);
+    }
+    let mut broken = ReaderSource::open(Blocked);
+    assert!(rt; read_four(alloc, &mut broken)?.is_none());
+
+    let mut bytes = Vec::new(alloc);
+    let mut sink = WriterSink::open(&mut bytes);
+    assert_eq!(rt; send(&mut sink, b"abc"), Ok(()));
+    assert_eq!(rt; bytes.as_slice(), b"abc".as_slice());
+    let mut full = WriterSink::open(Blocked);
+    assert_eq!(rt; full.write(b"abc"), Err(Failed));
+    assert_eq!(rt; full.flush(), Err(Failed));
+    Ok(())
+}
+
+// What may be used from several threads.
+fn crosses<T: Send + Sync>(_value: &T) {}
+
+fn pass_at_each_point<G: Gate, R: Threads + Wait + Sync>(gate: &G, rt: &R) {
+    for point in [
+        Point::BeforeTurn,
+        Point::AfterTurn,
+        Point::BeforeCommit,
+        Point::BeforeInstall,
+    ] {
+        gate.pass(rt, point, 0);
+    }
+}
+
+#[test]
+fn objects_cross_threads_and_an_open_gate_lets_pass(rt: HostRuntime) -> Result<(), Fail> {
+    let alloc = rt.alloc();
+    crosses(&MemorySource::open(Vec::new(alloc), 1, Vec::new(alloc)));
+    crosses(&MemorySink::open(alloc, 0, Vec::new(alloc))?);
+    crosses(&MemoryFiles::open(Vec::new(alloc), Vec::new(alloc)));
+    crosses(&ReaderSource::open(b"".as_slice()));
+    crosses(&WriterSink::open(Vec::new(alloc)));
+    crosses(&DiskFiles::open(&rt));
+    crosses(&Open);
+    pass_at_each_point(&Open, &rt);
+    Ok(())
+}
+
+#[test]
+fn files_on_the_disk_are_read_whole_or_refused(rt: HostRuntime) -> Result<(), Fail> {
+    let alloc = rt.alloc();
+    fs::write(&rt, "full", "abc")?;
+    let mut files = DiskFiles::open(&rt);
+    assert_eq!(rt;
+        read_within(alloc, &mut files, "full", 3)?.as_slice(),
+        b"abc".as_slice()
+    );
+    assert_eq!(rt;
+        read_within(alloc, &mut files, "full", 2),
+        Err(FileFault::TooLong { max: 2 })
+    );
+    assert_eq!(rt;
+        read_within(alloc, &mut files, "missing", 9),
+        Err(FileFault::Failed)
+    );
+    // A folder opens, and cannot be read.
+    assert_eq!(rt;
+        read_within(alloc, &mut files, ".", 9),
+        Err(FileFault::Failed)
+    );
+    Ok(())
+}

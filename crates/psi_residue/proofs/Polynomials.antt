@@ -1,0 +1,32 @@
+-- Lists that are polynomials.
+use Rattle.std.proofs.Common.{ℕ, ◌<◌, List, get_or, set, ◌∙◌, inl, inr, arith, replicate}
+use Rattle.std.proofs.lemmas.Bool.{cases_eq, cases_lt}
+use Rattle.std.proofs.lemmas.List.{get_or_past, get_or-set_other, get_or-replicate, length-replicate, length-set}
+use Rattle.std.proofs.lemmas.Grind.{get_or-set_at}
+use Rattle.psi_residue.specs.Polynomials.{IsPolynomial}
+
+-- a coefficient past the end is 0
+pub IsPolynomial-any : (m : ℕ) (xs : List ℕ) (i : ℕ) → 0 < m → IsPolynomial m xs → get_or xs i 0 < m
+IsPolynomial-any m xs i positive h =
+    elim (cases_lt i 4096) [
+      | inl lt ↦ h.below i lt
+      | inr le ↦ rw (get_or_past xs i 0 (omega (arith, h.size))) positive
+    ]
+
+-- all coefficients are one number
+pub IsPolynomial-constant : (m value : ℕ) → value < m → IsPolynomial m (replicate 4096 value)
+IsPolynomial-constant m value lt = record {
+  size = length-replicate {A = ℕ} 4096 value;
+  below = λ i below. rw (get_or-replicate 4096 i value 0 below) lt;
+}
+
+-- one coefficient is written
+pub IsPolynomial-set : (m : ℕ) (xs : List ℕ) (place value : ℕ) → IsPolynomial m xs → value < m → IsPolynomial m (set xs place value)
+IsPolynomial-set m xs place value h lt = record {
+  size = length-set xs place value ∙ h.size;
+  below = λ i below.
+      elim (cases_eq i place) [
+        | inl same ↦ rw (get_or-set_at xs place i value 0 same (omega (arith, h.size))) lt
+        | inr other ↦ rw (get_or-set_other xs place i value 0 other) (h.below i below)
+      ];
+}
