@@ -1,5 +1,6 @@
 pub mod Convolutions
 pub mod Filling
+pub mod Puts
 pub mod Rows
 pub mod TagMaps
 pub mod Walks
