@@ -1,5 +1,5 @@
 -- Frames as bytes (the format is this project's own). Every number is big-endian.
-use Rattle.std.specs.Prelude.{◌≡◌, ℕ, ◌+◌, ◌-◌, ◌≤◌, ◌<◌, ◌^◌, Bool, ◌&&◌, not, nat_eq, nat_lt, nat_le, List, [], ◌∷◌, ◌++◌, length, take, drop, slice_index, Option, Some, None, if◌then◌else◌, IsTrue}
+use Rattle.std.specs.Prelude.{◌≡◌, ℕ, ◌+◌, ◌≤◌, ◌<◌, ◌^◌, Bool, ◌&&◌, not, nat_eq, nat_lt, nat_le, List, [], ◌++◌, length, slice_index, Option, Some, None, if◌then◌else◌, IsTrue}
 use Rattle.std.specs.List.{All, flat_map}
 use Rattle.byteorder.specs.Endian.{big_number, big_bytes}
 use Rattle.psi_frames.specs.declared.frame.Frame.{Frame}

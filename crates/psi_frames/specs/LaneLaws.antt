@@ -24,7 +24,7 @@ use Rattle.psi_frames.specs.declared.reply.Reply.{Reply}
 use Rattle.psi_frames.specs.Frames.{put_kind, ask_kind, repack_kind, frame_bytes, frames_bytes}
 use Rattle.psi_frames.specs.Requests.{call_of, code_of, journal_full}
 use Rattle.psi_frames.specs.Rounds.{Request, is_go, requests_from, requests_of, is_full, IsRound, AreRounds}
-use Rattle.psi_frames.specs.Served.{Sent, Exchange, exchanges, place_of, from_of, refusal_of, body_of, answer_of, from_or_zero, entry_of, address_of_reply, address_of_request, places_in, places_of_round, first_place, uncoded_of_round, PlacesRise, StaysFull, SameSession, SeesOwn, IsRecorded, IsEvaluated, IsSince, IsRefusedByCode, IsServed, IsOneLane, journal_limit}
+use Rattle.psi_frames.specs.Served.{Sent, Exchange, exchanges, place_of, from_of, refusal_of, body_of, answer_of, from_or_zero, entry_of, address_of_reply, address_of_request, places_in, places_of_round, first_place, uncoded_of_round, PlacesRise, StaysFull, SameSession, SeesOwn, IsRecorded, IsEvaluated, IsSince, IsRefusedByCode, IsServed, IsOneLane, IsOneLaneText, text_of, journal_limit}
 use Rattle.psi_frames.specs.OneLane.{reply_of, lane_entry, lane_next, lane_reply, lane_sent, lane_replies, lane_history}
 
 -- a Put or an Ask
@@ -417,3 +417,15 @@ module _ (p : Parameters) (fs : List Frame) (h : IsOneRound p fs) where
   -- The frames are this one round, or none.
   pub rounds-lane : AreRounds (one_round fs) fs
   rounds-lane = rounds-fs fs h.plain h.few h.small
+
+-- The text of the one-thread sender's replies to one round is the one-lane text of its frames.
+pub text-lane : (p : Parameters) (fs : List Frame) → IsOneRound p fs → IsOneLaneText p fs (text_of (lane_replies p (empty_version p) fs))
+text-lane p fs h = record {
+  rounds = one_round fs;
+  history = lane_history (empty_version p) fs;
+  sents = lane_replies p (empty_version p) fs;
+  are_rounds = rounds-lane p fs h;
+  served = served-lane p fs h;
+  one_lane = one_lane p fs h;
+  text_is = refl;
+  }

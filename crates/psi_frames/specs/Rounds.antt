@@ -1,7 +1,6 @@
 -- How the frames of an input fall into rounds, and what requests they are.
-use Rattle.std.specs.Prelude.{◌≡◌, ℕ, ◌+◌, ◌<◌, ◌^◌, Bool, ◌&&◌, ◌||◌, nat_eq, nat_lt, nat_le, IsTrue, IsFalse, List, [], ◌∷◌, length, take, Some, None, if◌then◌else◌}
-use Rattle.std.specs.List.{All, flat_map, list_any, enumerate_from, last_or}
-use Rattle.std.specs.Option.{option_map_or}
+use Rattle.std.specs.Prelude.{◌≡◌, ℕ, ◌+◌, ◌<◌, ◌^◌, Bool, ◌||◌, nat_eq, nat_le, IsTrue, IsFalse, List, [], ◌∷◌, length, take, if◌then◌else◌}
+use Rattle.std.specs.List.{All, flat_map, list_any, enumerate_from}
 use Rattle.psi_residue.specs.Parameters.{Parameters}
 use Rattle.psi_frames.specs.declared.frame.Frame.{Frame}
 use Rattle.psi_frames.specs.Frames.{ask_kind, go_kind, frames_bytes}

@@ -1,12 +1,12 @@
 -- What replies serve what rounds of requests: a history is read off the requests and the replies.
-use Rattle.std.specs.Prelude.{◌≡◌, ◌≢◌, ◌⊎◌, ℕ, ◌+◌, ◌-◌, ◌^◌, ◌<◌, ◌≤◌, min, Bool, true, nat_eq, nat_lt, List, [], ◌∷◌, length, map, take, ⊤, Option, Some, None, IsSome, IfSome, slice_get, if◌then◌else◌}
+use Rattle.std.specs.Prelude.{◌≡◌, ◌≢◌, ◌⊎◌, ℕ, ◌+◌, ◌-◌, ◌^◌, ◌<◌, ◌≤◌, min, Bool, true, nat_eq, nat_lt, List, [], length, map, take, Option, Some, None, IsSome, slice_get, if◌then◌else◌}
 use Rattle.std.specs.List.{All, AllPairs, flat_map, filter_map, range_with_len, zip}
 use Rattle.std.specs.List.Sorted.{IsPermutation}
 use Rattle.psi_residue.specs.Parameters.{Parameters}
 use Rattle.psi_bundle.specs.declared.history.Answer.{Answer}
 use Rattle.psi_bundle.specs.declared.history.Answer.TheVariants as answer
 use Rattle.psi_bundle.specs.declared.history.Entry.{Entry}
-use Rattle.psi_bundle.specs.Versions.{Version}
+use Rattle.psi_bundle.specs.Versions.{Version, empty_version}
 use Rattle.psi_bundle.specs.Histories.{IsLegal, version_at}
 use Rattle.psi_bundle.specs.Bodies.{reply_body}
 use Rattle.psi_frames.specs.declared.reply.Reply.{Reply}
@@ -14,7 +14,7 @@ use Rattle.psi_frames.specs.declared.reply.Reply.TheVariants as reply
 use Rattle.psi_frames.specs.declared.frame.Frame.{Frame}
 use Rattle.psi_frames.specs.Frames.{reply_bytes, repack_kind}
 use Rattle.psi_frames.specs.Requests.{call_of, journal_full}
-use Rattle.psi_frames.specs.Rounds.{Request, requests_of}
+use Rattle.psi_frames.specs.Rounds.{Request, requests_of, AreRounds}
 
 -- a reply as it is sent: with the session and the number of its request
 pub record Sent : Type 0 where
@@ -174,3 +174,13 @@ pub record IsOneLane (es : List Exchange) : Type 0 where
   pub rising : AllPairs PlacesRise es
   pub full_stays : AllPairs StaysFull es
   pub own_from : All (λ e. (from : ℕ) → from_of e.sent.reply ≡ Some from → place_of e.sent.reply ≡ Some from) es
+
+-- The text is the one-lane text that serves the frames' rounds from the empty set: of some replies, along some history.
+pub record IsOneLaneText (p : Parameters) (frames : List Frame) (text : List ℕ) : Type 0 where
+  pub rounds : List (List Frame)
+  pub history : List Entry
+  pub sents : List Sent
+  pub are_rounds : AreRounds rounds frames
+  pub served : IsServed p (empty_version p) [] history rounds sents
+  pub one_lane : IsOneLane (exchanges (requests_of p rounds) sents)
+  pub text_is : text ≡ text_of sents

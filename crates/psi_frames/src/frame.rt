@@ -1,6 +1,18 @@
 //! Frames.
 use crate::body::Body;
 
+/// The kind of a frame that puts an item.
+pub const PUT: u8 = 1;
+
+/// The kind of a frame that asks.
+pub const ASK: u8 = 3;
+
+/// The bytes that a frame's length word counts before the body: the kind, the session and the number.
+pub const HEAD_BYTES: usize = 7;
+
+/// The greatest length word of a frame.
+pub const GREATEST_LENGTH: usize = 196608015;
+
 /// A frame: its kind, the session and the number that its sender gave it, and its body.
 #[derive(Drop)]
 pub struct Frame {

@@ -6,8 +6,13 @@
 
 mod body;
 mod frame;
+mod number;
+mod reading;
 mod reply;
+mod writing;
 
 pub use crate::body::Body;
 pub use crate::frame::Frame;
+pub use crate::reading::{FramesFault, whole_frames};
 pub use crate::reply::Reply;
+pub use crate::writing::{append_answer, write_answer};

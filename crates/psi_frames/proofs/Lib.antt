@@ -1,0 +1,2 @@
+pub mod WholeFrames
+pub mod Spelled

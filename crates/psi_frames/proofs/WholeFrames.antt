@@ -1,0 +1,118 @@
+-- What the test for a whole frame tells, and why no other frames spell an input.
+use Rattle.std.proofs.Common.{◌≡◌, ◌⊎◌, inl, inr, ℕ, ◌+◌, ◌<◌, Bool, true, false, ◌&&◌, ◌||◌, nat_eq, List, [], ◌∷◌, ◌++◌, length, drop, slice_index, refl, sym, ap, ◌∙◌, arith, append_assoc}
+use Rattle.std.proofs.lemmas.Bool.{leb-true, le-leb, eqb-true}
+use Rattle.std.proofs.lemmas.List.Elements.{All-head, All-weaker, All-same, All-drop}
+use Rattle.std.proofs.lemmas.List.{append-nil}
+use Rattle.std.proofs.lemmas.List.Concat.{flat_map-append}
+use Rattle.std.proofs.Math.Seq.{drop-append_seam}
+use Rattle.std.specs.Cmp.Derive.{both_true}
+use Rattle.std.specs.List.{All}
+use Rattle.byteorder.specs.Endian.{big_number}
+use Rattle.psi_frames.specs.declared.frame.Frame.{Frame}
+use Rattle.psi_frames.specs.Frames.{IsSpellable, frame_bytes, frames_bytes, head_bytes, greatest_length, go_kind, put_kind, ask_kind, is_request_kind}
+use Rattle.psi_frames.specs.Inputs.{IsFirstFrame, AreFrames, begins_frame}
+use Rattle.psi_frames.specs.FrameLaws.{front_frame, behind_front, front_frame-frame, frame-front_frame, IsSpellable-front_frame, big_number-frame, length-frame_append, same_front, same_frames}
+
+both : (a b : Bool) → (a && b) ≡ true → (a ≡ true) × (b ≡ true)
+both true b e = (refl, e)
+both false b e = absurd (cc)
+
+either : (a b : Bool) → (a || b) ≡ true → (a ≡ true) ⊎ (b ≡ true)
+either true b e = inl refl
+either false b e = inr e
+
+left_true : (a b : Bool) → a ≡ true → (a || b) ≡ true
+left_true true b e = refl
+left_true false b e = absurd (cc)
+
+right_true : (a b : Bool) → b ≡ true → (a || b) ≡ true
+right_true true b e = refl
+right_true false b e = e
+
+-- a kind of the first program is one of the table, and not that of a Go frame
+request_kind : (k : ℕ) → (k ≡ put_kind) ⊎ (k ≡ ask_kind) → is_request_kind k ≡ true
+request_kind k (inl e) = ap is_request_kind e
+request_kind k (inr e) = ap is_request_kind e
+
+not_go : (k : ℕ) → (k ≡ put_kind) ⊎ (k ≡ ask_kind) → k ≡ go_kind → ⊥
+not_go k (inl e) go = omega arith
+not_go k (inr e) go = omega arith
+
+-- the test tells that the bytes are a frame and what stands behind it
+pub begins_frame-tells : (bytes : List ℕ) → ((i : ℕ) → slice_index bytes i < 256) → begins_frame bytes ≡ true
+    → IsFirstFrame (front_frame bytes) × (bytes ≡ frame_bytes (front_frame bytes) ++ behind_front bytes)
+unfolding front_frame
+begins_frame-tells bytes each test =
+    let n = big_number 4 bytes in
+    let first = both _ _ test in
+    let second = both _ _ first.1 in
+    let range = both _ _ second.0 in
+    let third = both _ _ second.1 in
+    let head = leb-true 11 (length bytes) first.0 in
+    let least = leb-true head_bytes n range.0 in
+    let most = leb-true n greatest_length range.1 in
+    let whole = leb-true (4 + n) (length bytes) third.0 in
+    let kind : (slice_index bytes 4 ≡ put_kind) ⊎ (slice_index bytes 4 ≡ ask_kind) = elim (either _ _ third.1) [
+      | inl put ↦ inl (eqb-true (slice_index bytes 4) put_kind put)
+      | inr ask ↦ inr (eqb-true (slice_index bytes 4) ask_kind ask)
+    ] in (
+      record {
+        frame = record {
+          spellable = IsSpellable-front_frame bytes least most whole each;
+          kind = request_kind (slice_index bytes 4) kind;
+          go = λ go. absurd (not_go (slice_index bytes 4) kind go);
+        };
+        kind = kind;
+      },
+      frame-front_frame bytes head least whole each,
+    )
+
+-- the test holds of a frame and what stands behind it
+pub begins_frame-frame : (f : Frame) (x : List ℕ) → IsFirstFrame f → begins_frame (frame_bytes f ++ x) ≡ true
+unfolding front_frame
+begins_frame-frame f x first =
+    let s = first.frame.spellable in
+    let bytes = frame_bytes f ++ x in
+    let n = big_number 4 bytes in
+    let word = big_number-frame f x s in
+    let size = length-frame_append f x in
+    let bound = s.length in
+    let same : slice_index bytes 4 ≡ f.kind = ap (λ (g : Frame). g.kind) (front_frame-frame f x s) in
+    let kind : (nat_eq (slice_index bytes 4) put_kind || nat_eq (slice_index bytes 4) ask_kind) ≡ true = elim first.kind [
+      | inl put ↦ ap (λ (k : ℕ). nat_eq k put_kind || nat_eq k ask_kind) (same ∙ put)
+      | inr ask ↦ ap (λ (k : ℕ). nat_eq k put_kind || nat_eq k ask_kind) (same ∙ ask)
+    ] in
+    both_true (le-leb 11 (length bytes) (omega arith))
+    (both_true (both_true (le-leb head_bytes n (omega arith)) (le-leb n greatest_length (omega arith)))
+    (both_true (le-leb (4 + n) (length bytes) (omega arith)) kind))
+
+-- frames of an input have fields in their ranges
+spellable : (fs : List Frame) → All IsFirstFrame fs → All IsSpellable fs
+spellable fs each = All-weaker IsFirstFrame IsSpellable (λ f first. first.frame.spellable) fs each
+
+-- an input is one list of frames at most
+pub same_input : (bytes : List ℕ) (fs gs : List Frame) → AreFrames bytes fs → AreFrames bytes gs → fs ≡ gs
+same_input bytes fs gs f g = same_frames fs gs (spellable fs f.each) (spellable gs g.each) (sym f.whole ∙ g.whole)
+
+-- the frames behind some are such frames too
+each_behind : (vs gs fs : List Frame) → fs ≡ vs ++ gs → All IsFirstFrame fs → All IsFirstFrame gs
+each_behind vs gs fs e each =
+    All-same IsFirstFrame gs (drop (length vs) fs) (sym (ap (drop (length vs)) e ∙ drop-append_seam vs gs)) (All-drop IsFirstFrame (length vs) fs each)
+
+-- where something that begins no frame stands behind some frames, no frames spell the whole
+begins_none : (rest : List ℕ) (gs : List Frame) → 0 < length rest → rest ≡ frames_bytes gs → All IsFirstFrame gs
+    → ((f : Frame) (x : List ℕ) → IsFirstFrame f → rest ≡ frame_bytes f ++ x → ⊥) → ⊥
+begins_none rest [] some e each none = omega (arith, ap length e)
+begins_none rest (g ∷ gs) some e each none = none g (frames_bytes gs) (All-head IsFirstFrame g gs each) e
+
+pub no_input : (bytes rest : List ℕ) (vs fs : List Frame) → bytes ≡ frames_bytes vs ++ rest → All IsFirstFrame vs → 0 < length rest
+    → ((f : Frame) (x : List ℕ) → IsFirstFrame f → rest ≡ frame_bytes f ++ x → ⊥) → AreFrames bytes fs → ⊥
+no_input bytes rest vs fs whole each some none is =
+    let front = same_front vs fs rest (spellable vs each) (spellable fs is.each) (sym whole ∙ is.whole) in
+    begins_none rest front.0 some front.2 (each_behind vs front.0 fs front.1 is.each) none
+
+-- one more frame behind some
+pub one_more : (vs : List Frame) (f : Frame) (x : List ℕ) → frames_bytes vs ++ (frame_bytes f ++ x) ≡ frames_bytes (vs ++ f ∷ []) ++ x
+one_more vs f x =
+    let more : frames_bytes (vs ++ f ∷ []) ≡ frames_bytes vs ++ frame_bytes f = flat_map-append frame_bytes vs (f ∷ []) ∙ ap (λ (t : List ℕ). frames_bytes vs ++ t) (append-nil (frame_bytes f)) in
+    sym (append_assoc (frames_bytes vs) (frame_bytes f) x) ∙ ap (λ (t : List ℕ). t ++ x) (sym more)

@@ -1,0 +1,223 @@
+-- Laws of frames as bytes: reading a frame undoes writing it, so no bytes are two lists of frames.
+use Rattle.std.proofs.Common.{◌≡◌, ℕ, zero, suc, ◌+◌, ◌-◌, ◌*◌, ◌/◌, ◌%◌, ◌^◌, ◌<◌, ◌≤◌, Bool, true, false, nat_eq, List, [], ◌∷◌, ◌++◌, length, take, drop, slice_index, refl, sym, ap, ◌∙◌, arith, append_assoc, length-append, length-drop, if◌then◌else◌}
+use Rattle.std.proofs.Math.Nat.{mod-eq_of_lt, mul-add-mod_self_right, mul-add-div_right, div-eq_of_lt, div-one, one-le-pow}
+use Rattle.std.proofs.Math.Seq.{drop-append_seam, take-append_seam}
+use Rattle.std.proofs.lemmas.List.{take-append-drop, drop-drop, length-take-le, get_or-drop, append-nil}
+use Rattle.std.proofs.lemmas.Nat.{pow-add}
+use Rattle.std.proofs.lemmas.List.Sums.{sum_by-cons}
+use Rattle.std.proofs.lemmas.List.Elements.{All-head, All-tail, All-take, All-drop, All-from_get_or}
+use Rattle.std.specs.Int.{byte_at, bytes_high_first}
+use Rattle.std.specs.List.{All, count_by}
+use Rattle.byteorder.specs.Endian.{big_from, big_number, big_bytes}
+use Rattle.byteorder.specs.Numbers.{big_from-cons, big_from-lt, big_number-reads_back}
+use Rattle.psi_frames.specs.declared.frame.Frame.{Frame}
+use Rattle.psi_frames.specs.Frames.{spelled, frame_bytes, frames_bytes, IsSpellable, head_bytes, greatest_length, ask_kind}
+
+-- a byte of a number, by its place
+byte_at-pow : (k x : ℕ) → byte_at k x ≡ x / 256 ^ k % 256
+byte_at-pow zero x = ap (λ (y : ℕ). y % 256) (sym (div-one x))
+byte_at-pow (suc k) x = refl
+
+-- a power of 256 is above zero
+pow_pos256 : (n : ℕ) → zero < 256 ^ n
+pow_pos256 n = let h = one-le-pow n 256 (omega arith) in omega arith
+
+-- what stands above place k changes no byte below it
+byte_at-above : (n m a r : ℕ) → byte_at n (a * 256 ^ (m + (1 + n)) + r) ≡ byte_at n r
+byte_at-above n m a r =
+    let power : 256 ^ (m + (1 + n)) ≡ 256 ^ m * (256 ^ 1 * 256 ^ n) = pow-add 256 m (1 + n) ∙ ap (λ (x : ℕ). 256 ^ m * x) (pow-add 256 1 n) in
+    let shape : a * 256 ^ (m + (1 + n)) + r ≡ a * 256 ^ m * 256 * 256 ^ n + r = ap (λ (p : ℕ). a * p + r) power ∙ omega arith in
+    byte_at-pow n (a * 256 ^ (m + (1 + n)) + r)
+    ∙ ap (λ (x : ℕ). x / 256 ^ n % 256) shape
+    ∙ ap (λ (x : ℕ). x % 256) (mul-add-div_right (pow_pos256 n) (a * 256 ^ m * 256) r)
+    ∙ mul-add-mod_self_right (a * 256 ^ m) 256 (r / 256 ^ n)
+    ∙ sym (byte_at-pow n r)
+
+-- what stands above place n changes none of the n low bytes
+bytes_high_first-above : (n m a r : ℕ) → bytes_high_first n (a * 256 ^ (m + n) + r) ≡ bytes_high_first n r
+bytes_high_first-above zero m a r = refl
+bytes_high_first-above (suc n) m a r =
+    let one : m + suc n ≡ m + (1 + n) = omega arith in
+    let more : m + (1 + n) ≡ m + 1 + n = omega arith in
+    let top = byte_at-above n m a r in
+    let rest = bytes_high_first-above n (m + 1) a r in
+    rw (one, top, more, rest) refl
+
+-- writing what was read gives the bytes back
+pub big_bytes-big_number : (n : ℕ) (xs : List ℕ) → n ≤ length xs → ((i : ℕ) → slice_index xs i < 256) → big_bytes n (big_number n xs) ≡ take n xs
+big_bytes-big_number zero xs long bytes = refl
+big_bytes-big_number (suc n) [] long bytes = absurd (omega arith)
+big_bytes-big_number (suc n) (x ∷ xs) long bytes =
+    let r = big_from 0 n xs in
+    let moved : big_from 1 n (x ∷ xs) ≡ big_from 0 n xs = big_from-cons 0 n x xs in
+    let low : r < 256 ^ n = big_from-lt 0 n xs (λ i. bytes (suc i)) in
+    let byte : x < 256 = bytes 0 in
+    let top : byte_at n (x * 256 ^ n + r) ≡ x =
+    byte_at-pow n (x * 256 ^ n + r)
+    ∙ ap (λ (y : ℕ). y % 256) (mul-add-div_right (pow_pos256 n) x r)
+    ∙ ap (λ (y : ℕ). (x + y) % 256) (div-eq_of_lt low)
+    ∙ ap (λ (y : ℕ). y % 256) (omega arith)
+    ∙ mod-eq_of_lt byte in
+    let none : 0 + n ≡ n = omega arith in
+    let rest : bytes_high_first n (x * 256 ^ n + r) ≡ bytes_high_first n r = ap (λ (k : ℕ). bytes_high_first n (x * 256 ^ k + r)) (sym none) ∙ bytes_high_first-above n 0 x r in
+    let ih = big_bytes-big_number n xs (omega arith) (λ i. bytes (suc i)) in
+    rw (moved, top, rest, ih) refl
+
+-- the length word of the frame that begins these bytes, without what it counts before the body
+abbrev pub body_length : List ℕ → ℕ
+body_length bytes = big_number 4 bytes - head_bytes
+
+-- the frame that the bytes begin with: its kind stands at place 4, its session at 5, its number at 7 and its body at 11
+unfoldable pub front_frame : List ℕ → Frame
+front_frame bytes = record { kind = slice_index bytes 4; session = big_number 2 (drop 5 bytes); number = big_number 4 (drop 7 bytes); body = take (body_length bytes) (drop 11 bytes) }
+
+-- what stands behind that frame
+unfoldable pub behind_front : List ℕ → List ℕ
+behind_front bytes = drop (body_length bytes) (drop 11 bytes)
+
+-- a frame's length word is read back
+pub big_number-frame : (f : Frame) (x : List ℕ) → IsSpellable f → big_number 4 (frame_bytes f ++ x) ≡ head_bytes + length f.body
+unfolding spelled
+big_number-frame f x s =
+    let bound : head_bytes + length f.body < 256 ^ 4 = omega (arith, s.length) in
+    big_number-reads_back 4 (head_bytes + length f.body) (big_bytes 1 f.kind ++ big_bytes 2 f.session ++ big_bytes 4 f.number ++ f.body ++ x) bound
+
+-- and what it says of the body
+pub body_length-frame : (f : Frame) (x : List ℕ) → IsSpellable f → body_length (frame_bytes f ++ x) ≡ length f.body
+body_length-frame f x s =
+    let word = big_number-frame f x s in
+    omega (arith, word)
+
+-- a frame is read back
+pub front_frame-frame : (f : Frame) (x : List ℕ) → IsSpellable f → front_frame (frame_bytes f ++ x) ≡ f
+unfolding front_frame spelled
+front_frame-frame f x s =
+    let kind : f.kind % 256 ≡ f.kind = mod-eq_of_lt s.kind in
+    let session : big_number 2 (drop 5 (frame_bytes f ++ x)) ≡ f.session = big_number-reads_back 2 f.session (big_bytes 4 f.number ++ f.body ++ x) s.session in
+    let number : big_number 4 (drop 7 (frame_bytes f ++ x)) ≡ f.number = big_number-reads_back 4 f.number (f.body ++ x) s.number in
+    let body : take (body_length (frame_bytes f ++ x)) (f.body ++ x) ≡ f.body = ap (λ (n : ℕ). take n (f.body ++ x)) (body_length-frame f x s) ∙ take-append_seam f.body x in
+    λ i. record { kind = kind i; session = session i; number = number i; body = body i }
+
+-- what stands behind a frame is read back
+pub behind_front-frame : (f : Frame) (x : List ℕ) → IsSpellable f → behind_front (frame_bytes f ++ x) ≡ x
+unfolding behind_front spelled
+behind_front-frame f x s = ap (λ (n : ℕ). drop n (f.body ++ x)) (body_length-frame f x s) ∙ drop-append_seam f.body x
+
+-- two frames that begin the same bytes are one, and the same stands behind them
+pub one_frame : (f g : Frame) (x y : List ℕ) → IsSpellable f → IsSpellable g → frame_bytes f ++ x ≡ frame_bytes g ++ y → (f ≡ g) × (x ≡ y)
+one_frame f g x y s t e = (
+  sym (front_frame-frame f x s) ∙ ap front_frame e ∙ front_frame-frame g y t,
+  sym (behind_front-frame f x s) ∙ ap behind_front e ∙ behind_front-frame g y t,
+)
+
+-- a frame has eleven bytes and its body
+pub length-frame : (f : Frame) → length (frame_bytes f) ≡ 11 + length f.body
+unfolding spelled
+length-frame f = omega arith
+
+-- the bytes of a frame and of what stands behind it: at least eleven, and as many as the length word says
+pub length-frame_append : (f : Frame) (x : List ℕ) → length (frame_bytes f ++ x) ≡ 11 + length f.body + length x
+length-frame_append f x = omega (arith, length-append (frame_bytes f) x, length-frame f)
+
+-- n elements from place i, and what stands behind them
+cut_at : (i n : ℕ) (xs : List ℕ) → take n (drop i xs) ++ drop (i + n) xs ≡ drop i xs
+cut_at i n xs = ap (λ (ys : List ℕ). take n (drop i xs) ++ ys) (sym (drop-drop n i xs)) ∙ take-append-drop n (drop i xs)
+
+-- the parts of a frame, put together again
+joined : (bytes : List ℕ) (m : ℕ)
+    → (take 4 bytes ++ take 1 (drop 4 bytes) ++ take 2 (drop 5 bytes) ++ take 4 (drop 7 bytes) ++ take m (drop 11 bytes)) ++ drop m (drop 11 bytes) ≡ bytes
+joined bytes m =
+    let length_word = take-append-drop 4 bytes in
+    let kind = cut_at 4 1 bytes in
+    let session = cut_at 5 2 bytes in
+    let number = cut_at 7 4 bytes in
+    let body = take-append-drop m (drop 11 bytes) in
+    simp append_assoc (rw (body, number, session, kind, length_word) refl)
+
+-- the bytes from a place on are bytes
+bytes_from : (k : ℕ) (bytes : List ℕ) → ((i : ℕ) → slice_index bytes i < 256) → (i : ℕ) → slice_index (drop k bytes) i < 256
+bytes_from k bytes each i = let same = get_or-drop k bytes i 0 in let here = each (k + i) in omega arith
+
+-- the number of n bytes from place k, written again
+written_again : (k n : ℕ) (bytes : List ℕ) → k + n ≤ length bytes → ((i : ℕ) → slice_index bytes i < 256) → big_bytes n (big_number n (drop k bytes)) ≡ take n (drop k bytes)
+written_again k n bytes long each = big_bytes-big_number n (drop k bytes) (omega (arith, length-drop k bytes)) (bytes_from k bytes each)
+
+-- bytes that reach as far as their length word says are a frame and what stands behind it
+pub frame-front_frame : (bytes : List ℕ) → 11 ≤ length bytes → head_bytes ≤ big_number 4 bytes → 4 + big_number 4 bytes ≤ length bytes → ((i : ℕ) → slice_index bytes i < 256)
+    → bytes ≡ frame_bytes (front_frame bytes) ++ behind_front bytes
+unfolding front_frame behind_front spelled
+frame-front_frame bytes head least whole each =
+    let m = body_length bytes in
+    let body = take m (drop 11 bytes) in
+    let size : length body ≡ m = length-take-le m (drop 11 bytes) (omega (arith, length-drop 11 bytes)) in
+    let word : head_bytes + length body ≡ big_number 4 bytes = omega arith in
+    let length_word : big_bytes 4 (head_bytes + length body) ≡ take 4 bytes = ap (big_bytes 4) word ∙ big_bytes-big_number 4 bytes (omega arith) each in
+    let first : slice_index bytes 4 ≡ big_number 1 (drop 4 bytes) = omega (arith, get_or-drop 4 bytes 0 0) in
+    let kind : big_bytes 1 (slice_index bytes 4) ≡ take 1 (drop 4 bytes) = ap (big_bytes 1) first ∙ written_again 4 1 bytes (omega arith) each in
+    let session = written_again 5 2 bytes (omega arith) each in
+    let number = written_again 7 4 bytes (omega arith) each in
+    sym ((λ i. (length_word i ++ kind i ++ session i ++ number i ++ body) ++ drop m (drop 11 bytes)) ∙ joined bytes m)
+
+-- that frame has fields in their ranges, where its length word is one
+pub IsSpellable-front_frame : (bytes : List ℕ) → head_bytes ≤ big_number 4 bytes → big_number 4 bytes ≤ greatest_length → 4 + big_number 4 bytes ≤ length bytes → ((i : ℕ) → slice_index bytes i < 256)
+    → IsSpellable (front_frame bytes)
+unfolding front_frame
+IsSpellable-front_frame bytes least most whole each =
+    let m = body_length bytes in
+    let size : length (take m (drop 11 bytes)) ≡ m = length-take-le m (drop 11 bytes) (omega (arith, length-drop 11 bytes)) in
+    record {
+      kind = each 4;
+      session = big_from-lt 0 2 (drop 5 bytes) (bytes_from 5 bytes each);
+      number = big_from-lt 0 4 (drop 7 bytes) (bytes_from 7 bytes each);
+      body = All-take (λ (b : ℕ). b < 2 ^ 8) m (drop 11 bytes) (All-drop (λ (b : ℕ). b < 2 ^ 8) 11 bytes (All-from_get_or (λ (b : ℕ). b < 2 ^ 8) bytes 0 (λ i _. each i)));
+      length = omega arith;
+    }
+
+-- nothing is the text of no frames alone
+pub no_frames : (fs : List Frame) → frames_bytes fs ≡ [] → fs ≡ []
+no_frames [] e = refl
+no_frames (f ∷ fs) e = absurd (omega (arith, ap length e, length-frame_append f (frames_bytes fs)))
+
+-- Where the text of some frames is the front of the text of others, they are the first of these, and the rest is the text of the others of these.
+pub same_front : (vs fs : List Frame) (rest : List ℕ) → All IsSpellable vs → All IsSpellable fs → frames_bytes vs ++ rest ≡ frames_bytes fs
+    → (gs : List Frame) × (fs ≡ vs ++ gs) × (rest ≡ frames_bytes gs)
+same_front [] fs rest each_v each_f e = (fs, refl, e)
+same_front (v ∷ vs) [] rest each_v each_f e =
+    absurd (omega (arith, ap length e, length-append (frames_bytes (v ∷ vs)) rest, length-frame_append v (frames_bytes vs)))
+same_front (v ∷ vs) (f ∷ fs) rest each_v each_f e =
+    let whole : frame_bytes v ++ (frames_bytes vs ++ rest) ≡ frame_bytes f ++ frames_bytes fs = sym (append_assoc (frame_bytes v) (frames_bytes vs) rest) ∙ e in
+    let one = one_frame v f (frames_bytes vs ++ rest) (frames_bytes fs) (All-head IsSpellable v vs each_v) (All-head IsSpellable f fs each_f) whole in
+    let more = same_front vs fs rest (All-tail IsSpellable v vs each_v) (All-tail IsSpellable f fs each_f) one.1 in
+    (more.0, (λ i. sym one.0 i ∷ more.1 i), more.2)
+
+-- no bytes are the text of two lists of frames
+pub same_frames : (fs gs : List Frame) → All IsSpellable fs → All IsSpellable gs → frames_bytes fs ≡ frames_bytes gs → fs ≡ gs
+same_frames fs gs each_f each_g e =
+    let front = same_front fs gs [] each_f each_g (append-nil (frames_bytes fs) ∙ e) in
+    let none = no_frames front.0 (sym front.2) in
+    sym (front.1 ∙ ap (λ (hs : List Frame). fs ++ hs) none ∙ append-nil fs)
+
+-- the greatest body of a query, and of any other frame of a first program
+abbrev pub body_limit : Frame → ℕ
+body_limit f = if nat_eq f.kind ask_kind then 81928 else 256
+
+-- the bytes of a frame with such a body
+length-frame_by : (asks : Bool) (n : ℕ) → n ≤ (if asks then 81928 else 256) → 11 + n ≤ 267 + 81672 * (if asks then 1 else 0)
+length-frame_by true n h = omega arith
+length-frame_by false n h = omega arith
+
+-- the length of a text grows by eleven bytes and the body with each frame
+length-frames_by : (fs : List Frame) → All (λ f. length f.body ≤ body_limit f) fs
+    → length (frames_bytes fs) ≤ 267 * length fs + 81672 * count_by (λ f. nat_eq f.kind ask_kind) fs
+length-frames_by [] each = omega arith
+length-frames_by (f ∷ fs) each =
+    let before = length-frames_by fs (All-tail (λ (f : Frame). length f.body ≤ body_limit f) f fs each) in
+    let here = length-frame_by (nat_eq f.kind ask_kind) (length f.body) (All-head (λ (f : Frame). length f.body ≤ body_limit f) f fs each) in
+    let count = sum_by-cons (λ (f : Frame). if nat_eq f.kind ask_kind then 1 else 0) f fs in
+    let size = length-frame_append f (frames_bytes fs) in
+    omega (arith, before, here, count, size)
+
+-- at most 4096 frames, of which at most 32 ask, are a text of fewer than 2^22 bytes
+pub length-frames : (fs : List Frame) → All (λ f. length f.body ≤ body_limit f) fs → length fs ≤ 4096 → count_by (λ f. nat_eq f.kind ask_kind) fs ≤ 32
+    → length (frames_bytes fs) < 2 ^ 22
+length-frames fs each few asks = omega (arith, length-frames_by fs each)
