@@ -3,4 +3,5 @@ pub mod Filling
 pub mod Puts
 pub mod Rows
 pub mod TagMaps
+pub mod Taken
 pub mod Walks

@@ -1,10 +1,12 @@
 -- The input of the command `serve 1 1 0 1 0`: Puts and Asks of one round, in which nothing is refused and one bundle is enough.
+-- A 33rd Ask has the code of one too many, so there are at most 32.
 use Rattle.std.specs.Prelude.{ℕ, ◌≡◌, ◌+◌, ◌≤◌, List, [], ◌∷◌, length, nat_eq, if◌then◌else◌, ⊤}
 use Rattle.psi_residue.specs.Parameters.{Parameters}
 use Rattle.psi_bundle.specs.Versions.{Version, row_at, empty_version}
 use Rattle.psi_frames.specs.declared.frame.Frame.{Frame}
 use Rattle.psi_frames.specs.Frames.{ask_kind}
 use Rattle.psi_frames.specs.Requests.{code_of}
+use Rattle.psi_frames.specs.Inputs.{AreFrames}
 use Rattle.psi_frames.specs.OneLane.{lane_next}
 
 -- one row, one member a bin, no labels
@@ -24,3 +26,9 @@ pub record IsTaken (v : Version) (asks : ℕ) (f : Frame) : Type 0 where
 abbrev pub AreTaken : Version → ℕ → List Frame → Type 0
 AreTaken v asks [] = ⊤
 AreTaken v asks (f ∷ fs) = IsTaken v asks f × AreTaken (lane_next v f) (asks_behind asks f) fs
+
+-- the bytes are these frames, one round of them, and all are taken from the empty set
+pub record IsFirstInput (bytes : List ℕ) (frames : List Frame) : Type 0 where
+  pub spelled : AreFrames bytes frames
+  pub few : length frames ≤ 4096
+  pub taken : AreTaken (empty_version first_parameters) 0 frames

@@ -84,7 +84,7 @@ asks_before : (p : Parameters) (asks : ℕ) (f : Frame) → p.rows ≡ 1 → p.c
 asks_before p asks f rows capacity ask none = (length-ask p asks f.body rows capacity (code_of_ask p asks f ask none)).1
 
 -- the request of a frame that puts or asks, and those behind it
-requests_from-cons : (p : Parameters) (round asks : ℕ) (f : Frame) (fs : List Frame) → IsFirstFrame f
+pub requests_from-cons : (p : Parameters) (round asks : ℕ) (f : Frame) (fs : List Frame) → IsFirstFrame f
     → requests_from p round asks (f ∷ fs) ≡ record { round = round; frame = f; code = code_of p asks f } ∷ requests_from p round (if nat_eq f.kind ask_kind then asks + 1 else asks) fs
 unfolding requests_from
 requests_from-cons p round asks f fs first =

@@ -12,7 +12,7 @@ mod reply;
 mod writing;
 
 pub use crate::body::Body;
-pub use crate::frame::Frame;
+pub use crate::frame::{ASK, Frame, PUT};
 pub use crate::reading::{FramesFault, whole_frames};
 pub use crate::reply::Reply;
 pub use crate::writing::{append_answer, write_answer};
