@@ -1,5 +1,5 @@
 -- Bins of members, and when a bin accepts one more (Chen, Laine, Rindal, CCS 2017: simple hashing at the sender).
-use Rattle.std.specs.Prelude.{ℕ, Bool, not, List, [], ◌∷◌, ◌++◌, length, map, filter, nat_lt, nat_eq, ◌&&◌, if◌then◌else◌, replicate, slice_index_or, slice_set}
+use Rattle.std.specs.Prelude.{ℕ, Bool, not, List, [], length, map, filter, nat_lt, nat_eq, ◌&&◌, if◌then◌else◌, replicate, slice_index_or}
 use Rattle.std.specs.List.{list_any}
 use Rattle.std.specs.Cmp.Lexicographic.{pointwise}
 use Rattle.psi_bundle.specs.declared.member.Member.{Member}

@@ -1,5 +1,5 @@
 -- The body of a reply to a query: each plane of each bundle, evaluated at the encrypted powers (Chen, Laine, Rindal, CCS 2017).
-use Rattle.std.specs.Prelude.{ℕ, Bool, false, true, ◌+◌, ◌*◌, ◌%◌, List, [], ◌∷◌, ◌++◌, length, map, drop, slice_index, if◌then◌else◌}
+use Rattle.std.specs.Prelude.{ℕ, Bool, false, true, ◌+◌, ◌*◌, ◌%◌, List, [], ◌∷◌, ◌++◌, length, drop, slice_index, if◌then◌else◌}
 use Rattle.std.specs.List.{flat_map, enumerate_from, range_with_len}
 use Rattle.byteorder.specs.Endian.{big_number, big_bytes}
 use Rattle.psi_residue.specs.Parameters.{Parameters, parameter_bytes}

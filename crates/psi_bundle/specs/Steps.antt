@@ -1,7 +1,6 @@
 -- One call on a set: its answer, and the version after it (the table of steps is this project's own).
 use Rattle.std.specs.Prelude.{ℕ, Bool, ◌+◌, List, length, nat_le, ◌&&◌, if◌then◌else◌, is_some, slice_set}
 use Rattle.std.specs.FinMap as fin
-use Rattle.psi_bundle.specs.declared.member.Member.{Member}
 use Rattle.psi_bundle.specs.declared.history.Call.{Call}
 use Rattle.psi_bundle.specs.declared.history.Call.TheVariants as call
 use Rattle.psi_bundle.specs.declared.history.Answer.{Answer}

@@ -1,6 +1,6 @@
 -- Items as tags, slot values and positions. A tag is the front of a SHA-256 digest (FIPS 180-4); numbers in it
 -- are big-endian. An item cut into several field elements: Cong et al., CCS 2021.
-use Rattle.std.specs.Prelude.{ℕ, ◌+◌, ◌*◌, ◌%◌, List, [], ◌∷◌, map, take, drop, nat_lt, ◌==◌, nat_eq, if◌then◌else◌}
+use Rattle.std.specs.Prelude.{ℕ, ◌+◌, ◌*◌, ◌%◌, List, [], ◌∷◌, map, take, drop, nat_lt, nat_eq, if◌then◌else◌}
 use Rattle.sha2.specs.Sha256.{sha256}
 use Rattle.byteorder.specs.Endian.{big_number}
 

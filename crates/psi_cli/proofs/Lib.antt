@@ -1,7 +1,15 @@
+pub mod Calls
+pub mod Codes
 pub mod Convolutions
+pub mod Evaluations
 pub mod Filling
+pub mod Lengths
+pub mod Pieces
 pub mod Puts
+pub mod Residues
+pub mod RootPlanes
 pub mod Rows
+pub mod Tables
 pub mod TagMaps
 pub mod Taken
 pub mod Walks

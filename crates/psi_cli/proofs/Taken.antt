@@ -1,18 +1,18 @@
 -- Laws of inputs in which every request is taken.
 use Rattle.std.specs.Prelude.{◌≡◌, ℕ, zero, suc, ◌+◌, ◌≤◌, ◌<◌, ◌^◌, List, [], ◌∷◌, ◌++◌, length, drop, nat_eq, if◌then◌else◌, slice_index_or, true, false, Bool}
 use Rattle.std.specs.List.{All, AllByRecursion, flat_map}
-use Rattle.std.proofs.Common.{refl, sym, ap, ◌∙◌, arith, subst, add-one, append_assoc}
+use Rattle.std.proofs.Common.{refl, sym, ap, ◌∙◌, arith, subst, add-one, append_assoc, append-nil}
 use Rattle.std.proofs.Math.Seq.{drop-cons}
 use Rattle.std.proofs.lemmas.List.Elements.{All-from_recursion, recursion_from_All, All-weaker}
 use Rattle.psi_bundle.specs.Versions.{Version, empty_version, row_at}
 use Rattle.psi_frames.specs.declared.frame.Frame.{Frame}
 use Rattle.psi_frames.specs.Frames.{frames_bytes, reply_bytes, ask_kind}
 use Rattle.psi_frames.specs.Inputs.{AreFrames, IsFirstFrame}
-use Rattle.psi_frames.specs.Requests.{code_of}
+use Rattle.psi_frames.specs.Requests.{code_of, call_of}
 use Rattle.psi_frames.specs.Rounds.{Request, is_go, requests_from}
 use Rattle.psi_frames.specs.Served.{Sent, text_of, IsOneLaneText}
 use Rattle.psi_frames.specs.OneLane.{lane_next, lane_reply, lane_replies, lane_sent}
-use Rattle.psi_frames.specs.LaneLaws.{IsPutOrAsk, IsOneRound, text-lane}
+use Rattle.psi_frames.specs.LaneLaws.{IsPutOrAsk, IsOneRound, text-lane, count-step}
 use Rattle.psi_frames.specs.FirstLengths.{requests_from-cons, length-first_input}
 use Rattle.psi_cli.specs.FirstInput.{first_parameters, asks_behind, IsTaken, AreTaken, IsFirstInput}
 
@@ -82,3 +82,22 @@ not_taken v asks all i f text lt here h never whole =
     let split : drop i all ≡ f ∷ drop (i + 1) all = drop-cons all i f lt ∙ ap (λ (g : Frame). g ∷ drop (suc i) all) (sym here) ∙ ap (λ (n : ℕ). f ∷ drop n all) (sym (add-one i)) in
     let at_cons : AreTaken v asks (f ∷ drop (i + 1) all) = subst (λ (fs : List Frame). AreTaken v asks fs) split (h.back whole) in
     never at_cons.0
+
+-- where nothing is left, all is told
+pub told_all : (v : Version) (asks : ℕ) (left : List Frame) (text : List ℕ) (all : List Frame) → left ≡ [] → Serves v asks left text all
+    → text ≡ text_of (lane_replies first_parameters (empty_version first_parameters) all)
+unfolding lane_replies
+told_all v asks left text all none h =
+    sym (append-nil text) ∙ ap (λ (fs : List Frame). text ++ text_of (lane_replies first_parameters v fs)) (sym none) ∙ h.told
+
+-- the Asks behind a frame are one more at most
+either_more : (b : Bool) (n : ℕ) → (if b then n + 1 else n) ≤ n + 1
+either_more true n = omega arith
+either_more false n = omega arith
+
+pub asks-more : (asks : ℕ) (f : Frame) → asks_behind asks f ≤ asks + 1
+asks-more asks f = either_more (nat_eq f.kind ask_kind) asks
+
+-- a request adds one to the count
+pub count-next : (v : Version) (f : Frame) → (lane_next v f).count ≡ v.count + 1
+count-next v f = count-step v (call_of f v.count)

@@ -7,20 +7,21 @@ ghost use Rattle.psi_bundle.specs.Steps.{step};
 ghost use Rattle.psi_bundle.specs.Tags.{tag_of};
 ghost use Rattle.psi_bundle.specs.Versions.{empty_version, row_at};
 ghost use Rattle.psi_frames.specs.declared.frame.Frame.{Frame};
-ghost use Rattle.psi_frames.specs.Frames.{reply_bytes};
-ghost use Rattle.psi_frames.specs.Inputs.{IsFirstFrame};
+ghost use Rattle.psi_frames.specs.Frames.{reply_bytes, put_kind, ask_kind};
+ghost use Rattle.psi_frames.specs.Inputs.{IsFirstFrame, answer_fits};
 ghost use Rattle.psi_frames.specs.OneLane.{reply_of, lane_next, lane_reply, lane_replies};
-ghost use Rattle.psi_frames.specs.Requests.{put_code, ask_code, item_of, label_of};
+ghost use Rattle.psi_frames.specs.Requests.{put_code, item_of, label_of};
 ghost use Rattle.psi_frames.specs.Served.{text_of};
-ghost use Rattle.psi_cli.specs.FirstInput.{first_parameters, IsTaken, AreTaken, IsFirstInput};
+ghost use Rattle.psi_cli.specs.FirstInput.{first_parameters, asks_behind, IsTaken, AreTaken, IsFirstInput};
 ghost use Rattle.psi_cli.specs.Sets.{version_of};
+ghost use Rattle.psi_cli.specs.Serving.{IsWholeQuery};
 ghost use Rattle.psi_cli.specs.declared.serve.ServeFault.TheVariants.{BadInput, NoMemory};
 
 use crate::evaluation;
 use crate::requests;
 use crate::set::{Put, Set};
 use psi_bundle::{Label, tag_of};
-use psi_frames::{ASK, Body, Frame, FramesFault, Reply, append_answer, whole_frames};
+use psi_frames::{ASK, Body, Frame, FramesFault, PUT, Reply, append_answer, whole_frames};
 use std::alloc::{AllocError, Global};
 
 /// The most frames of an input: one round.
@@ -82,11 +83,17 @@ fn serve_frames(alloc: Global, frames: &[Frame]) -> Result<Vec<u8>, ServeFault>
     let mut text = Vec::new(alloc);
     for frame in frames {
         serve_frame(alloc, &mut set, asks, frame, &mut text)?;
-        if frame.kind == ASK {
-            asks += 1;
-        }
+        asks = asks_behind(asks, frame);
     }
     Ok(text)
+}
+
+// The Asks behind one more frame.
+fn asks_behind(asks: u32, frame: &Frame) -> u32
+    requires { asks < 4096 }
+    ensures { result ≡ asks_behind asks frame.now }
+{
+    if frame.kind == ASK { asks + 1 } else { asks }
 }
 
 // Serves one request: the set takes it, and its reply is put behind the text.
@@ -103,6 +110,7 @@ fn serve_frame(
     ensures taken { OnOk result (IsTaken (version_of set.old) asks frame.now) }
     ensures version { OnOk result (version_of set.new ≡ lane_next (version_of set.old) frame.now) }
     ensures text { OnOk result (text.new.items ≡ text.old.items ++ reply_bytes frame.now.session frame.now.number (lane_reply first_parameters (version_of set.old) frame.now)) }
+    ensures one_left { OnOk result (length (row_at (version_of set.new).rows 0) ≤ 1) }
     ensures bad { result ≡ Err BadInput → IsTaken (version_of set.old) asks frame.now → ⊥ }
 {
     if requests::code(frame, asks) != 0 {
@@ -114,4 +122,66 @@ fn serve_frame(
     }
     append_answer(text, frame.session, frame.number, &reply)?;
     Ok(())
+}
+
+// What the set answers to a request without a code, as a reply.
+fn reply_to(alloc: Global, set: &mut Set, frame: &Frame) -> Result<Reply, AllocError>
+    requires first { IsFirstFrame frame.now }
+    requires put { frame.now.kind ≡ put_kind → put_code first_parameters frame.now.body ≡ 0 }
+    requires ask { frame.now.kind ≡ ask_kind → IsWholeQuery frame.now.body }
+    requires one_bundle { length (row_at (version_of set.old).rows 0) ≤ 1 }
+    requires counted { (version_of set.old).count + 1 < 2 ^ 64 }
+    ensures version { OnOk result (version_of set.new ≡ lane_next (version_of set.old) frame.now) }
+    ensures reply { IfOk result (λ reply. reply ≡ lane_reply first_parameters (version_of set.old) frame.now) }
+    ensures fits { IfOk result answer_fits }
+{
+    if frame.kind == PUT {
+        put_reply(alloc, set, frame.body.items())
+    } else {
+        ask_reply(alloc, set, frame.body.items())
+    }
+}
+
+// Puts the item of a Put's body.
+fn put_reply(alloc: Global, set: &mut Set, body: &[u8]) -> Result<Reply, AllocError>
+    requires uncoded { put_code first_parameters body.now ≡ 0 }
+    requires one_bundle { length (row_at (version_of set.old).rows 0) ≤ 1 }
+    requires counted { (version_of set.old).count + 1 < 2 ^ 64 }
+    ensures version { OnOk result (version_of set.new ≡ (step (version_of set.old) (Call.Put (tag_of (item_of body.now)) (label_of body.now))).version) }
+    ensures reply { IfOk result (λ reply. (query : List ℕ) → reply ≡ reply_of (step (version_of set.old) (Call.Put (tag_of (item_of body.now)) (label_of body.now))).answer (version_of set.old).count query) }
+    ensures fits { IfOk result answer_fits }
+{
+    let place = set.count();
+    let tag = tag_of(requests::item(body));
+    let label = empty_label(requests::label(body));
+    match set.put(alloc, tag, label)? {
+        Put::Added => Ok(Reply::Added { place }),
+        Put::Replaced => Ok(Reply::Replaced { place }),
+    }
+}
+
+// The label of a set without label units.
+fn empty_label(bytes: &[u8]) -> Label
+    requires { length bytes.now ≡ 0 }
+    ensures { result ≡ bytes.now }
+{
+    match Label::of(bytes) {
+        Some(label) => label,
+        None => unreachable!(),
+    }
+}
+
+// Answers a query from the set as it stands.
+fn ask_reply(alloc: Global, set: &mut Set, query: &[u8]) -> Result<Reply, AllocError>
+    requires whole { IsWholeQuery query.now }
+    requires one_bundle { length (row_at (version_of set.old).rows 0) ≤ 1 }
+    requires counted { (version_of set.old).count + 1 < 2 ^ 64 }
+    ensures version { OnOk result (version_of set.new ≡ (step (version_of set.old) Call.Ask).version) }
+    ensures reply { IfOk result (λ reply. reply ≡ reply_of (step (version_of set.old) Call.Ask).answer (version_of set.old).count (reply_body first_parameters (version_of set.old).rows query.now)) }
+    ensures fits { IfOk result answer_fits }
+{
+    let place = set.count();
+    let body = Body::of(evaluation::reply_body(alloc, set.row(), query)?);
+    set.ask();
+    Ok(Reply::Answer { place, body })
 }

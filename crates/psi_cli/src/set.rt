@@ -17,8 +17,8 @@ const CAPACITY: u16 = 1;
 /// A bundle, with one more than the place of the entry that last changed it.
 #[derive(Drop)]
 pub struct StampedBundle {
-    stamp: u64,
-    bundle: Bundle,
+    pub(crate) stamp: u64,
+    pub(crate) bundle: Bundle,
 }
 
 /// A set with one row of bundles.

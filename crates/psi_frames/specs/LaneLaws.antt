@@ -1,6 +1,6 @@
 -- The one-thread sender's replies to one round of Puts and Asks without a code serve that round, and are of one lane.
-use Rattle.std.specs.Prelude.{◌≡◌, ◌≢◌, ◌⊎◌, ℕ, zero, suc, ◌+◌, ◌-◌, ◌^◌, ◌<◌, ◌≤◌, min, Bool, true, false, nat_eq, nat_lt, nat_le, is_some, ◌||◌, List, [], ◌∷◌, ◌++◌, length, map, take, ⊤, Option, Some, None, IsSome, slice_get, slice_index_or, if◌then◌else◌}
-use Rattle.std.specs.List.{All, AllPairs, AllByRecursion, flat_map, filter_map, range_with_len, zip, enumerate_from, list_any}
+use Rattle.std.specs.Prelude.{◌≡◌, ◌⊎◌, ℕ, zero, suc, ◌+◌, ◌-◌, ◌^◌, ◌<◌, ◌≤◌, min, Bool, true, false, nat_eq, nat_lt, nat_le, is_some, ◌||◌, List, [], ◌∷◌, length, map, take, Option, Some, None, IsSome, slice_get, slice_index_or, if◌then◌else◌}
+use Rattle.std.specs.List.{All, AllPairs, AllByRecursion, range_with_len, list_any}
 use Rattle.std.specs.List.Sorted.{IsPermutation}
 use Rattle.std.proofs.Common.{refl, sym, ap, ◌∙◌, subst, arith, inl, inr, append-nil}
 use Rattle.std.proofs.lemmas.List.{length-map, length-take-le}
@@ -17,15 +17,14 @@ use Rattle.psi_bundle.specs.declared.history.Entry.{Entry}
 use Rattle.psi_bundle.specs.Versions.{Version, Row, row_at, empty_version, placed, planes_of, cells_of, greatest_stamp, packed_row, members_of_row}
 use Rattle.std.specs.FinMap as fin
 use Rattle.psi_bundle.specs.Steps.{Step, step, replace, add, remove, repack, next, unchanged, fits}
-use Rattle.psi_bundle.specs.Histories.{IsLegal, replay, version_at}
+use Rattle.psi_bundle.specs.Histories.{IsLegal, version_at}
 use Rattle.psi_bundle.specs.Bodies.{reply_body}
 use Rattle.psi_frames.specs.declared.frame.Frame.{Frame}
-use Rattle.psi_frames.specs.declared.reply.Reply.{Reply}
 use Rattle.psi_frames.specs.Frames.{put_kind, ask_kind, repack_kind, frame_bytes, frames_bytes}
-use Rattle.psi_frames.specs.Requests.{call_of, code_of, journal_full}
+use Rattle.psi_frames.specs.Requests.{call_of}
 use Rattle.psi_frames.specs.Rounds.{Request, is_go, requests_from, requests_of, is_full, IsRound, AreRounds}
-use Rattle.psi_frames.specs.Served.{Sent, Exchange, exchanges, place_of, from_of, refusal_of, body_of, answer_of, from_or_zero, entry_of, address_of_reply, address_of_request, places_in, places_of_round, first_place, uncoded_of_round, PlacesRise, StaysFull, SameSession, SeesOwn, IsRecorded, IsEvaluated, IsSince, IsRefusedByCode, IsServed, IsOneLane, IsOneLaneText, text_of, journal_limit}
-use Rattle.psi_frames.specs.OneLane.{reply_of, lane_entry, lane_next, lane_reply, lane_sent, lane_replies, lane_history}
+use Rattle.psi_frames.specs.Served.{Exchange, exchanges, place_of, from_of, refusal_of, body_of, answer_of, from_or_zero, entry_of, address_of_reply, address_of_request, places_in, places_of_round, first_place, uncoded_of_round, PlacesRise, StaysFull, SameSession, SeesOwn, IsRecorded, IsEvaluated, IsSince, IsRefusedByCode, IsServed, IsOneLane, IsOneLaneText, text_of, journal_limit}
+use Rattle.psi_frames.specs.OneLane.{reply_of, lane_next, lane_reply, lane_sent, lane_replies, lane_history}
 
 -- a Put or an Ask
 abbrev pub IsPutOrAsk : Frame → Type 0
@@ -428,4 +427,4 @@ text-lane p fs h = record {
   served = served-lane p fs h;
   one_lane = one_lane p fs h;
   text_is = refl;
-  }
+}

@@ -1,5 +1,5 @@
 -- The one-thread sender: it takes the requests of an input in their order, each on the version that the one before left.
-use Rattle.std.specs.Prelude.{ℕ, ◌+◌, Bool, nat_eq, List, [], ◌∷◌, if◌then◌else◌, map}
+use Rattle.std.specs.Prelude.{ℕ, List, [], ◌∷◌}
 use Rattle.psi_residue.specs.Parameters.{Parameters}
 use Rattle.psi_bundle.specs.declared.history.Answer.{Answer}
 use Rattle.psi_bundle.specs.declared.history.Answer.TheVariants as answer
@@ -11,8 +11,7 @@ use Rattle.psi_frames.specs.declared.reply.Reply.{Reply}
 use Rattle.psi_frames.specs.declared.reply.Reply.TheVariants as reply
 use Rattle.psi_frames.specs.declared.frame.Frame.{Frame}
 use Rattle.psi_frames.specs.Requests.{call_of}
-use Rattle.psi_frames.specs.Rounds.{Request}
-use Rattle.psi_frames.specs.Served.{Sent, Exchange}
+use Rattle.psi_frames.specs.Served.{Sent}
 
 -- the reply that tells an answer at a place; a query's body is told with Seen, and a Repack's `from` is its place
 abbrev pub reply_of : Answer → (place : ℕ) → (body : List ℕ) → Reply

@@ -1,4 +1,4 @@
-use Rattle.std.proofs.Common.{◌≡◌, map, take, drop}
+use Rattle.std.proofs.Common.{◌≡◌, take, drop}
 use Rattle.psi_bundle.specs.Bins.{roots_of}
 use Rattle.psi_bundle.proofs.bundle.write_roots.Given as goal
 

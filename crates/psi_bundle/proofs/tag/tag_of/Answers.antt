@@ -1,4 +1,4 @@
-use Rattle.std.proofs.Common.{◌≡◌, ◌∙◌, ap, take}
+use Rattle.std.proofs.Common.{◌∙◌, ap, take}
 use Rattle.psi_bundle.specs.Tags.{tag_of}
 use Rattle.psi_bundle.proofs.tag.tag_of.Goals as goal
 

@@ -1,4 +1,4 @@
-use Rattle.std.proofs.Common.{◌≡◌, ◌∙◌, ap, map, List, slice_set, Vec, Global}
+use Rattle.std.proofs.Common.{◌∙◌, ap, map, List, slice_set, Vec, Global}
 use Rattle.std.proofs.lemmas.List.{map-set}
 use Rattle.psi_bundle.specs.declared.member.Member.{Member}
 use Rattle.psi_bundle.proofs.bundle.Bundle.with_bin.Goals as goal

@@ -1,0 +1,35 @@
+//! Writing a text to a sink.
+ghost use Rattle.std.specs.Prelude.{◌≡◌, ℕ, take, OnOk, OnErr};
+ghost use Rattle.std.specs.Io.KnownBytes.{Appends};
+ghost use Rattle.psi_outside.specs.Causes.{HasCause};
+ghost use Rattle.psi_outside.specs.Streams.{IsAllFlushed};
+
+use psi_outside::{Failed, Sink};
+
+/// Writes all of the text and flushes it. An empty text is flushed too.
+///
+/// `Failed` comes where a write or the flush failed. A front of the text was written then.
+#[tactic(auto, using(crate::proofs::Pieces::whole_kept))]
+pub fn write_all<K: Sink>(sink: &mut K, text: &[u8]) -> Result<(), Failed>
+    ensures written { OnOk result (Appends (K.written sink.old) (K.written sink.new) text.now) }
+    ensures flushed { OnOk result (IsAllFlushed (K.written sink.new) (K.flushed sink.new)) }
+    ensures front { OnErr result ((n : ℕ) × Appends (K.written sink.old) (K.written sink.new) (take n text.now)) }
+    ensures cause { HasCause (K.faults sink.old) (K.faults sink.new) result }
+{
+    write_pieces(sink, text)?;
+    sink.flush()
+}
+
+// Writes all of the text, piece by piece.
+fn write_pieces<K: Sink>(sink: &mut K, text: &[u8]) -> Result<(), Failed>
+    ensures written { OnOk result (Appends (K.written sink.old) (K.written sink.new) text.now) }
+    ensures front { OnErr result ((n : ℕ) × Appends (K.written sink.old) (K.written sink.new) (take n text.now)) }
+    ensures cause { HasCause (K.faults sink.old) (K.faults sink.new) result }
+{
+    let mut rest = text;
+    while !rest.is_empty() {
+        let count = sink.write(rest)?;
+        rest = &rest[count..];
+    }
+    Ok(())
+}
