@@ -1,6 +1,6 @@
 pub mod Calls
-pub mod Codes
 pub mod Convolutions
+pub mod Ends
 pub mod Evaluations
 pub mod Filling
 pub mod Lengths

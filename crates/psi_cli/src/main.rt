@@ -13,6 +13,8 @@ mod run;
 mod serve;
 mod set;
 mod status;
+#[cfg(test)]
+mod tests;
 mod words;
 mod writing;
 
