@@ -23,7 +23,7 @@ answered-bytes bytes text h = record {
   frames = h.0;
   input = h.1;
   served = subst (λ (t : List ℕ). IsOneLaneText first_parameters h.0 t) (sym h.2) (text-input bytes h.0 h.1);
-  }
+}
 
 -- the text answers what the source had left, where that is told
 pub answered-left : (left : Option (List ℕ)) (bytes text : List ℕ) → IfSome left (λ all. bytes ≡ all) → IsServedText bytes text → IfSome left (λ all. IsAnswered all text)

@@ -22,8 +22,8 @@ length-residues xs = length-pieces (big_bytes 5) 5 (λ x. length-bytes_high_firs
 length-ciphertext : (query : List ℕ) (first capacity : ℕ) (bins : List (List Member)) (plane : ℕ) → length (ciphertext_bytes query first capacity bins plane) ≡ 81920
 length-ciphertext query first capacity bins plane =
     length-pieces (λ l. residue_bytes (table 4096 (reply_residue query first capacity bins plane l.0 l.1.0 l.1.1))) 20480
-        (λ l. length-residues (table 4096 (reply_residue query first capacity bins plane l.0 l.1.0 l.1.1)) ∙ ap (λ (n : ℕ). n * 5) (length-table 4096 (reply_residue query first capacity bins plane l.0 l.1.0 l.1.1)))
-        (enumerate_from 0 ciphertext_lists)
+    (λ l. length-residues (table 4096 (reply_residue query first capacity bins plane l.0 l.1.0 l.1.1)) ∙ ap (λ (n : ℕ). n * 5) (length-table 4096 (reply_residue query first capacity bins plane l.0 l.1.0 l.1.1)))
+    (enumerate_from 0 ciphertext_lists)
 
 length-bundle : (query : List ℕ) (r : ℕ) (bins : List (List Member)) → length (bundle_bytes first_parameters query r bins) ≡ 81920
 length-bundle query r bins = length-pieces (ciphertext_bytes query (r * 1) 1 bins) 81920 (length-ciphertext query (r * 1) 1 bins) (0 ∷ [])

@@ -76,7 +76,7 @@ put-added count labels after row new tag label lacks is one placed_is =
     let fit : fits first_parameters rows ≡ true = ap (fits first_parameters) (sym placed_is) ∙ few-fit new few in
     second_of_two (is_some (fin.get labels tag)) (replace v tag label) (add v tag label rows) lacks
     ∙ first_of_two (fits first_parameters rows) (record { answer = answer.Added; version = next v (fin.insert labels tag label) rows })
-        (record { answer = answer.Full (planes_of first_parameters rows) (cells_of first_parameters rows); version = unchanged v }) fit
+    (record { answer = answer.Full (planes_of first_parameters rows) (cells_of first_parameters rows); version = unchanged v }) fit
     ∙ (λ i. record { answer = answer.Added; version = record { parameters = first_parameters; count = count + 1; labels = sym is i; rows = sym placed_is i } })
 
 -- a Put of another tag is answered Added, where the row has one bundle at most

@@ -22,7 +22,7 @@ unfolding requests_from
 uncoded v asks [] each h = tt
 uncoded v asks (f ∷ fs) each h =
     subst (λ (rs : List Request). AllByRecursion (λ r. r.code ≡ 0) rs) (sym (requests_from-cons first_parameters 0 asks f fs each.0))
-        (h.0.uncoded, uncoded (lane_next v f) (asks_behind asks f) fs each.1 h.1)
+    (h.0.uncoded, uncoded (lane_next v f) (asks_behind asks f) fs each.1 h.1)
 
 -- an input in which all are taken is one round of Puts and Asks without a code
 pub one_round-input : (bytes : List ℕ) (fs : List Frame) → IsFirstInput bytes fs → IsOneRound first_parameters fs
@@ -60,11 +60,11 @@ serves_cons : (v : Version) (asks : ℕ) (f : Frame) (fs : List Frame) (text aft
 unfolding lane_replies
 serves_cons v asks f fs text after all h taken is = record {
   told =
-    ap (λ (t : List ℕ). t ++ text_of (lane_replies first_parameters (lane_next v f) fs)) is
-    ∙ append_assoc text (reply_bytes f.session f.number (lane_reply first_parameters v f)) (text_of (lane_replies first_parameters (lane_next v f) fs)) ∙ h.told;
+      ap (λ (t : List ℕ). t ++ text_of (lane_replies first_parameters (lane_next v f) fs)) is
+      ∙ append_assoc text (reply_bytes f.session f.number (lane_reply first_parameters v f)) (text_of (lane_replies first_parameters (lane_next v f) fs)) ∙ h.told;
   onward = λ rest. h.onward (taken, rest);
   back = λ whole. (h.back whole).1;
-  }
+}
 
 -- request number i of an input is served
 pub serves_more : (v next : Version) (asks : ℕ) (all : List Frame) (i : ℕ) (f : Frame) (text after : List ℕ) → i < length all → f ≡ slice_index_or all i f

@@ -10,6 +10,8 @@ mod product;
 mod reading;
 mod requests;
 mod run;
+#[cfg(test)]
+mod run_tests;
 mod serve;
 mod set;
 mod status;

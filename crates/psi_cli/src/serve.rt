@@ -17,9 +17,8 @@ ghost use Rattle.psi_cli.specs.Sets.{version_of};
 ghost use Rattle.psi_cli.specs.Serving.{IsWholeQuery};
 ghost use Rattle.psi_cli.specs.declared.serve.ServeFault.TheVariants.{BadInput, NoMemory};
 
-use crate::evaluation;
-use crate::requests;
 use crate::set::{Put, Set};
+use crate::{evaluation, requests};
 use psi_bundle::{Label, tag_of};
 use psi_frames::{ASK, Body, Frame, FramesFault, PUT, Reply, append_answer, whole_frames};
 use std::alloc::{AllocError, Global};

@@ -13,7 +13,7 @@ returns-then-frame-eq-PUT-clause-version c =
 pub returns-then-frame-eq-PUT-clause-reply : goal.returns-then-frame-eq-PUT-clause-reply
 returns-then-frame-eq-PUT-clause-reply c =
     IfOk-weaker c.put_reply.result _ (λ reply. reply ≡ lane_reply first_parameters (version_of c.args.set.now) c.args.frame.now)
-        (λ reply h. reply-put (version_of c.args.set.now) c.args.frame.now c.items.result.now reply c.if-frame-eq-PUT.true c.items.ensures h) c.put_reply.ensures.reply
+    (λ reply h. reply-put (version_of c.args.set.now) c.args.frame.now c.items.result.now reply c.if-frame-eq-PUT.true c.items.ensures h) c.put_reply.ensures.reply
 
 pub returns-else-frame-eq-PUT-clause-version : goal.returns-else-frame-eq-PUT-clause-version
 returns-else-frame-eq-PUT-clause-version c =
@@ -24,4 +24,4 @@ pub returns-else-frame-eq-PUT-clause-reply : goal.returns-else-frame-eq-PUT-clau
 returns-else-frame-eq-PUT-clause-reply c =
     let ask = other-kind c.args.frame.now c.requires.first.kind c.if-frame-eq-PUT.false in
     IfOk-weaker c.ask_reply.result _ (λ reply. reply ≡ lane_reply first_parameters (version_of c.args.set.now) c.args.frame.now)
-        (λ reply h. reply-ask (version_of c.args.set.now) c.args.frame.now c.items-else-frame-eq-PUT.result.now reply ask c.items-else-frame-eq-PUT.ensures h) c.ask_reply.ensures.reply
+    (λ reply h. reply-ask (version_of c.args.set.now) c.args.frame.now c.items-else-frame-eq-PUT.result.now reply ask c.items-else-frame-eq-PUT.ensures h) c.ask_reply.ensures.reply

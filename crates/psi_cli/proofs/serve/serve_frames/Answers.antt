@@ -14,7 +14,7 @@ loop-frame-preserved c =
     let f = c.frame-item.result in
     let told = c.in_ok-serve_frame.ensures in
     let served = serves_more v next c.loop-frame.asks c.args.frames.now c.loop-frame.frame-index f c.loop-frame.text.items c.serve_frame.new.text.items c.loop-frame-test.true c.frame-item.is
-        c.loop-frame.invariant.serves told.taken told.version told.text in
+    c.loop-frame.invariant.serves told.taken told.version told.text in
     let counted : next.count ≡ c.loop-frame.frame-index + 1 = ap (λ (w : Version). w.count) told.version ∙ count-next v f ∙ ap (λ (n : ℕ). n + 1) c.loop-frame.invariant.count in
     let more = asks-more c.loop-frame.asks f in
     record {

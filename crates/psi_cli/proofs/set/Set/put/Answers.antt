@@ -29,19 +29,19 @@ returns-clause-version c =
           let after = given ∙ ap (λ (m : Labels). fin.insert m c.args.tag c.args.label) kept in
           let size : length w.relabel_all.new.row ≡ c.args.self.now.row.len = omega arith in
           let rows = ap (λ (s : Set). row_of s.row.items ∷ []) w.self-is
-              ∙ ap (λ (us : List StampedBundle). row_of us ∷ []) (kept_whole w.relabel_all.new.row c.args.self.now.row.items c.args.self.now.row.len size)
-              ∙ w.in_ok-relabel_all.ensures
-              ∙ ap (λ (us : List StampedBundle). fold (changed_at (c.args.self.now.count + 1) (λ bin. relabelled bin c.args.tag c.args.label) c.args.tag) (row_of us ∷ []) w.list.result.now) w.deref_mut.ensures.value
-              ∙ ap (λ (ps : List ℕ). fold (changed_at (c.args.self.now.count + 1) (λ bin. relabelled bin c.args.tag c.args.label) c.args.tag) (row_of c.args.self.now.row.items ∷ []) ps) (w.list.ensures ∙ c.positions-places.ensures.listed) in
+          ∙ ap (λ (us : List StampedBundle). row_of us ∷ []) (kept_whole w.relabel_all.new.row c.args.self.now.row.items c.args.self.now.row.len size)
+          ∙ w.in_ok-relabel_all.ensures
+          ∙ ap (λ (us : List StampedBundle). fold (changed_at (c.args.self.now.count + 1) (λ bin. relabelled bin c.args.tag c.args.label) c.args.tag) (row_of us ∷ []) w.list.result.now) w.deref_mut.ensures.value
+          ∙ ap (λ (ps : List ℕ). fold (changed_at (c.args.self.now.count + 1) (λ bin. relabelled bin c.args.tag c.args.label) c.args.tag) (row_of c.args.self.now.row.items ∷ []) ps) (w.list.ensures ∙ c.positions-places.ensures.listed) in
           sym (ap (λ (s : Step). s.version) (put-replaced c.args.self.now.count (labels_of c.args.self.now) _ (row_of c.args.self.now.row.items) _ c.args.tag c.args.label
-              (sym c.contains.ensures ∙ w.if-contains.true) after rows))
+          (sym c.contains.ensures ∙ w.if-contains.true) after rows))
       | else-contains+in_ok-place_all w ↦
           let kept : labels_of c.if-contains.self ≡ labels_of c.args.self.now = ap labels_of w.self-is in
           let after = given ∙ ap (λ (m : Labels). fin.insert m c.args.tag c.args.label) kept in
           let rows = ap (λ (s : Set). row_of s.row.items ∷ []) w.self-is ∙ w.in_ok-place_all.ensures
-              ∙ ap (λ (ps : List ℕ). fold (placed_at 1 (c.args.self.now.count + 1) (record { tag = c.args.tag; label = c.args.label })) (row_of c.args.self.now.row.items ∷ []) ps) (w.list-else-contains.ensures ∙ c.positions-places.ensures.listed) in
+          ∙ ap (λ (ps : List ℕ). fold (placed_at 1 (c.args.self.now.count + 1) (record { tag = c.args.tag; label = c.args.label })) (row_of c.args.self.now.row.items ∷ []) ps) (w.list-else-contains.ensures ∙ c.positions-places.ensures.listed) in
           sym (ap (λ (s : Step). s.version) (put-added c.args.self.now.count (labels_of c.args.self.now) _ (row_of c.args.self.now.row.items) _ c.args.tag c.args.label
-              (sym c.contains.ensures ∙ w.if-contains.false) after c.requires.one_bundle rows))
+          (sym c.contains.ensures ∙ w.if-contains.false) after c.requires.one_bundle rows))
     ]
 
 pub returns-clause-answer : goal.returns-clause-answer
