@@ -1,5 +1,5 @@
 -- What a Put and an Ask ask of the set, and what their codes say.
-use Rattle.std.specs.Prelude.{◌≡◌, ◌⊎◌, ℕ, ◌+◌, ◌*◌, ◌≤◌, ◌<◌, Bool, true, false, not, nat_eq, nat_le, nat_lt, List, length, take, IsTrue, if◌then◌else◌}
+use Rattle.std.specs.Prelude.{◌≡◌, ◌⊎◌, ℕ, ◌+◌, ◌*◌, ◌<◌, Bool, true, false, not, nat_eq, List, length, take, if◌then◌else◌}
 use Rattle.std.specs.Cmp.Lexicographic.{pointwise}
 use Rattle.std.proofs.Common.{refl, sym, ap, ◌∙◌, arith, inl, inr}
 use Rattle.std.proofs.lemmas.Bool.{eqb-true}
@@ -12,7 +12,7 @@ use Rattle.psi_bundle.specs.Versions.{Version}
 use Rattle.psi_frames.specs.declared.frame.Frame.{Frame}
 use Rattle.psi_frames.specs.declared.reply.Reply.{Reply}
 use Rattle.psi_frames.specs.Frames.{put_kind, drop_kind, ask_kind}
-use Rattle.psi_frames.specs.Requests.{call_of, code_of, put_code, ask_code, item_of, label_of, residues_fit, residues_of_query, asks_of_round}
+use Rattle.psi_frames.specs.Requests.{call_of, code_of, put_code, ask_code, item_of, label_of, residues_fit, residues_of_query}
 use Rattle.psi_frames.specs.OneLane.{reply_of, lane_next, lane_reply}
 use Rattle.psi_cli.specs.FirstInput.{first_parameters}
 use Rattle.psi_cli.specs.Serving.{IsWholeQuery}

@@ -1,17 +1,15 @@
 -- From what reading, serving and writing say to what a run leaves.
-use Rattle.std.specs.Prelude.{◌≡◌, ℕ, ◌<◌, ◌≤◌, ◌^◌, List, length, Option, Some, None, IfSome, ⊤}
-use Rattle.std.proofs.Common.{refl, sym, ap, ◌∙◌, subst, arith}
-use Rattle.psi_outside.specs.Causes.{Rose}
+use Rattle.std.specs.Prelude.{◌≡◌, ℕ, ◌<◌, ◌^◌, List, length, Option, Some, None, IfSome}
+use Rattle.std.proofs.Common.{sym, subst, arith}
 use Rattle.psi_bundle.specs.Versions.{empty_version}
 use Rattle.psi_frames.specs.declared.frame.Frame.{Frame}
 use Rattle.psi_frames.specs.OneLane.{lane_replies}
 use Rattle.psi_frames.specs.Served.{text_of, IsOneLaneText}
 use Rattle.psi_cli.specs.declared.reading.ReadEnd.{ReadEnd}
 use Rattle.psi_cli.specs.declared.reading.ReadEnd.TheVariants as end
-use Rattle.psi_cli.specs.declared.status.Status.{Status}
 use Rattle.psi_cli.specs.FirstInput.{first_parameters, IsFirstInput}
 use Rattle.psi_cli.specs.Reading.{IsLonger, IsReadCounted}
-use Rattle.psi_cli.specs.Runs.{IsAnswered, IsNoInput, GivesUp, IsRefused, status_of_end}
+use Rattle.psi_cli.specs.Runs.{IsAnswered, IsNoInput, GivesUp, status_of_end}
 use Rattle.psi_cli.proofs.Taken.{text-input, length-input}
 
 -- what serving says of its text

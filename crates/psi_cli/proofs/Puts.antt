@@ -1,5 +1,5 @@
 -- A Put on a set of one row and at most one bundle is the step.
-use Rattle.std.specs.Prelude.{◌≡◌, ℕ, ◌+◌, ◌*◌, ◌≤◌, ◌<◌, Bool, true, false, ◌&&◌, nat_le, is_some, List, [], ◌∷◌, length, if◌then◌else◌}
+use Rattle.std.specs.Prelude.{◌≡◌, ℕ, ◌+◌, ◌≤◌, ◌<◌, Bool, true, false, ◌&&◌, is_some, List, [], ◌∷◌, length, if◌then◌else◌}
 use Rattle.std.specs.List.{fold, AllByRecursion}
 use Rattle.std.specs.FinMap as fin
 use Rattle.std.proofs.Common.{refl, sym, ap, ◌∙◌, arith, subst}

@@ -1,7 +1,7 @@
 -- First fit in a row, by the position of the first bundle that accepts; and what first fit does to a row's length.
-use Rattle.std.specs.Prelude.{◌≡◌, ℕ, zero, suc, ◌+◌, ◌-◌, ◌*◌, ◌/◌, ◌%◌, ◌<◌, ◌≤◌, Bool, true, false, cond, List, [], ◌∷◌, ◌++◌, length, map, take, drop, Option, Some, None, slice_index_or, slice_set, if◌then◌else◌}
-use Rattle.std.specs.List.{fold, position_from, All, AllByRecursion}
-use Rattle.std.proofs.Common.{refl, sym, ap, ◌∙◌, arith, subst, add-one}
+use Rattle.std.specs.Prelude.{◌≡◌, ℕ, zero, suc, ◌+◌, ◌/◌, ◌%◌, ◌<◌, ◌≤◌, Bool, true, false, cond, List, [], ◌∷◌, ◌++◌, length, map, take, drop, Option, Some, None, slice_index_or, slice_set, if◌then◌else◌}
+use Rattle.std.specs.List.{fold, position_from, AllByRecursion}
+use Rattle.std.proofs.Common.{refl, sym, ap, ◌∙◌, arith, add-one}
 use Rattle.std.proofs.lemmas.List.{get_or-replicate, map-set, map-append, drop-set-lt, drop-drop, get_or-drop, set-get_or}
 use Rattle.std.proofs.Math.Seq.{take-suc, take-suc-set, drop-cons, take-append_seam}
 use Rattle.std.proofs.Math.ListN.{get_or-map}

@@ -1,17 +1,17 @@
 -- Laws of inputs in which every request is taken.
-use Rattle.std.specs.Prelude.{◌≡◌, ℕ, zero, suc, ◌+◌, ◌≤◌, ◌<◌, ◌^◌, List, [], ◌∷◌, ◌++◌, length, drop, nat_eq, if◌then◌else◌, slice_index_or, true, false, Bool}
-use Rattle.std.specs.List.{All, AllByRecursion, flat_map}
+use Rattle.std.specs.Prelude.{◌≡◌, ℕ, suc, ◌+◌, ◌≤◌, ◌<◌, ◌^◌, List, [], ◌∷◌, ◌++◌, length, drop, nat_eq, if◌then◌else◌, slice_index_or, true, false, Bool}
+use Rattle.std.specs.List.{AllByRecursion}
 use Rattle.std.proofs.Common.{refl, sym, ap, ◌∙◌, arith, subst, add-one, append_assoc, append-nil}
 use Rattle.std.proofs.Math.Seq.{drop-cons}
 use Rattle.std.proofs.lemmas.List.Elements.{All-from_recursion, recursion_from_All, All-weaker}
-use Rattle.psi_bundle.specs.Versions.{Version, empty_version, row_at}
+use Rattle.psi_bundle.specs.Versions.{Version, empty_version}
 use Rattle.psi_frames.specs.declared.frame.Frame.{Frame}
-use Rattle.psi_frames.specs.Frames.{frames_bytes, reply_bytes, ask_kind}
-use Rattle.psi_frames.specs.Inputs.{AreFrames, IsFirstFrame}
-use Rattle.psi_frames.specs.Requests.{code_of, call_of}
-use Rattle.psi_frames.specs.Rounds.{Request, is_go, requests_from}
-use Rattle.psi_frames.specs.Served.{Sent, text_of, IsOneLaneText}
-use Rattle.psi_frames.specs.OneLane.{lane_next, lane_reply, lane_replies, lane_sent}
+use Rattle.psi_frames.specs.Frames.{reply_bytes, ask_kind}
+use Rattle.psi_frames.specs.Inputs.{IsFirstFrame}
+use Rattle.psi_frames.specs.Requests.{call_of}
+use Rattle.psi_frames.specs.Rounds.{Request, requests_from}
+use Rattle.psi_frames.specs.Served.{text_of, IsOneLaneText}
+use Rattle.psi_frames.specs.OneLane.{lane_next, lane_reply, lane_replies}
 use Rattle.psi_frames.specs.LaneLaws.{IsPutOrAsk, IsOneRound, text-lane, count-step}
 use Rattle.psi_frames.specs.FirstLengths.{requests_from-cons, length-first_input}
 use Rattle.psi_cli.specs.FirstInput.{first_parameters, asks_behind, IsTaken, AreTaken, IsFirstInput}

@@ -1,5 +1,5 @@
 -- What the program's set stands for.
-use Rattle.std.specs.Prelude.{ℕ, List, [], ◌∷◌, map}
+use Rattle.std.specs.Prelude.{List, [], ◌∷◌, map}
 use Rattle.std.specs.FinMap as fin
 use Rattle.psi_bundle.specs.Versions.{Version, Row, Stamped}
 use Rattle.psi_cli.specs.declared.set.Set.{Set}

@@ -1,6 +1,6 @@
-use Rattle.std.proofs.Common.{◌≡◌, ◌∙◌, ℕ, List, sym, ap, subst}
+use Rattle.std.proofs.Common.{ℕ, List, sym, subst}
 use Rattle.psi_cli.specs.declared.status.Status.{Status}
-use Rattle.psi_cli.specs.Runs.{GivesUp, IsAnswered}
+use Rattle.psi_cli.specs.Runs.{GivesUp}
 use Rattle.psi_cli.proofs.Ends.{answered-left, end-gives_up, IsServedText}
 use Rattle.psi_cli.proofs.run.replies.Goals as goal
 

@@ -1,4 +1,4 @@
-use Rattle.std.proofs.Common.{◌≡◌, ◌∙◌, ◌+◌, ◌*◌, ◌≤◌, ℕ, List, length, sym, ap, arith}
+use Rattle.std.proofs.Common.{◌≡◌, ◌∙◌, List, length, ap, arith}
 use Rattle.psi_bundle.specs.Versions.{Row, row_at}
 use Rattle.psi_bundle.specs.Bodies.{reply_body}
 use Rattle.psi_bundle.specs.Steps.{step}

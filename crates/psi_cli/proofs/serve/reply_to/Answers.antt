@@ -1,7 +1,7 @@
-use Rattle.std.proofs.Common.{◌≡◌, ◌∙◌}
+use Rattle.std.proofs.Common.{◌≡◌}
 use Rattle.std.proofs.lemmas.Result.{on_ok_weaker, IfOk-weaker}
 use Rattle.psi_cli.specs.Sets.{version_of}
-use Rattle.psi_frames.specs.OneLane.{lane_next, lane_reply}
+use Rattle.psi_frames.specs.OneLane.{lane_reply}
 use Rattle.psi_cli.specs.FirstInput.{first_parameters}
 use Rattle.psi_cli.proofs.Calls.{next-put, reply-put, next-ask, reply-ask, other-kind}
 use Rattle.psi_cli.proofs.serve.reply_to.Goals as goal

@@ -1,6 +1,4 @@
-use Rattle.std.proofs.Common.{◌≡◌, ◌∙◌, sym, subst, ℕ, List}
-use Rattle.psi_frames.specs.Requests.{put_code}
-use Rattle.psi_cli.specs.FirstInput.{first_parameters}
+use Rattle.std.proofs.Common.{◌∙◌, sym}
 use Rattle.psi_cli.proofs.Calls.{uncoded-put, uncoded-ask}
 use Rattle.psi_cli.proofs.serve.serve_frame.Goals as goal
 

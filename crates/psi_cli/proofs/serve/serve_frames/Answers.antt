@@ -1,8 +1,6 @@
-use Rattle.std.proofs.Common.{◌≡◌, ◌∙◌, ◌+◌, ◌≤◌, ℕ, List, [], length, drop, sym, ap, subst, arith}
+use Rattle.std.proofs.Common.{◌≡◌, ◌∙◌, ◌+◌, ℕ, [], drop, sym, ap, subst, arith}
 use Rattle.std.proofs.lemmas.List.{drop_all}
 use Rattle.psi_bundle.specs.Versions.{Version}
-use Rattle.psi_frames.specs.declared.frame.Frame.{Frame}
-use Rattle.psi_cli.specs.FirstInput.{asks_behind}
 use Rattle.psi_cli.specs.Sets.{version_of}
 use Rattle.psi_cli.proofs.Taken.{Serves, serves_more, told_all, asks-more, count-next}
 use Rattle.psi_cli.proofs.serve.serve_frames.Goals as goal

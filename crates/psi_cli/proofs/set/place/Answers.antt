@@ -1,4 +1,4 @@
-use Rattle.std.proofs.Common.{◌≡◌, ◌∙◌, List, IsTrue, Some, sym, subst, ap, ℕ, refl, arith}
+use Rattle.std.proofs.Common.{◌∙◌, IsTrue, Some, sym, subst, ap, arith}
 use Rattle.std.specs.List.{position_from}
 use Rattle.psi_bundle.specs.Bins.{accepts, bin_at}
 use Rattle.psi_cli.specs.declared.set.StampedBundle.{StampedBundle}

@@ -1,4 +1,3 @@
-use Rattle.std.proofs.Common.{◌≡◌, ◌∙◌, ℕ, sym, arith}
 use Rattle.psi_cli.proofs.Rows.{place_more}
 use Rattle.psi_cli.proofs.set.place_all.Goals as goal
 

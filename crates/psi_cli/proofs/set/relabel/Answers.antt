@@ -1,9 +1,8 @@
-use Rattle.std.proofs.Common.{◌≡◌, ◌∙◌, ◌<◌, ◌+◌, Bool, true, false, List, sym, ap, ℕ, refl, arith, take, drop, map, slice_index_or, slice_set, length}
+use Rattle.std.proofs.Common.{◌≡◌, ◌∙◌, ◌<◌, ◌+◌, true, false, List, sym, ap, ℕ, arith, take, drop, map, slice_index_or, slice_set, length}
 use Rattle.std.proofs.lemmas.List.{get_or_default}
-use Rattle.psi_bundle.specs.Versions.{Stamped}
 use Rattle.psi_bundle.specs.Bins.{holds, bin_at, relabelled}
 use Rattle.psi_cli.specs.declared.set.StampedBundle.{StampedBundle}
-use Rattle.psi_cli.specs.Sets.{stamped_of, row_of}
+use Rattle.psi_cli.specs.Sets.{row_of}
 use Rattle.psi_cli.proofs.Rows.{relabelled_at, done_more, rest_more, relabel-held, relabel-other, set_same}
 use Rattle.psi_cli.proofs.set.relabel.Goals as goal
 use Rattle.psi_cli.proofs.set.relabel.Goals.{then-holds+in_ok-bundle, else-holds}

@@ -1,4 +1,4 @@
-use Rattle.std.proofs.Common.{◌≡◌, List, IsTrue, sym, subst, ℕ}
+use Rattle.std.proofs.Common.{List, IsTrue, sym, subst}
 use Rattle.psi_bundle.specs.declared.member.Member.{Member}
 use Rattle.psi_bundle.specs.Bins.{accepts, bin_at}
 use Rattle.psi_cli.proofs.Rows.{fresh-accepts}

@@ -2,11 +2,8 @@ use Rattle.std.proofs.Common.{◌≡◌, ◌∙◌, ◌+◌, ℕ, sym, ap, List,
 use Rattle.std.specs.List.{fold}
 use Rattle.std.specs.FinMap as fin
 use Rattle.psi_bundle.specs.Bins.{relabelled}
-use Rattle.psi_bundle.specs.Versions.{Labels, Row, placed_at, changed_at}
-use Rattle.psi_bundle.specs.Steps.{Step, step}
-use Rattle.psi_bundle.specs.declared.history.Answer.{Answer}
-use Rattle.psi_bundle.specs.declared.history.Answer.TheVariants as answer
-use Rattle.psi_bundle.specs.declared.history.Call.TheVariants as call
+use Rattle.psi_bundle.specs.Versions.{Labels, placed_at, changed_at}
+use Rattle.psi_bundle.specs.Steps.{Step}
 use Rattle.psi_cli.specs.declared.set.Set.{Set}
 use Rattle.psi_cli.specs.declared.set.StampedBundle.{StampedBundle}
 use Rattle.psi_cli.specs.Sets.{row_of, version_of, answer_of}
