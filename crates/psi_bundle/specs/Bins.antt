@@ -3,7 +3,7 @@ use Rattle.std.specs.Prelude.{ℕ, Bool, not, List, [], length, map, filter, nat
 use Rattle.std.specs.List.{list_any}
 use Rattle.std.specs.Cmp.Lexicographic.{pointwise}
 use Rattle.psi_bundle.specs.declared.member.Member.{Member}
-use Rattle.psi_bundle.specs.Tags.{slot_value, parts, bins_of_row}
+use Rattle.item_slots.specs.Tags.{slot_value, parts, bins_of_row}
 
 -- two tags are the same bytes
 abbrev pub same_tag : List ℕ → List ℕ → Bool

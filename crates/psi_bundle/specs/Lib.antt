@@ -1,4 +1,3 @@
-pub mod Tags
 pub mod Labels
 pub mod Bins
 pub mod Versions
@@ -6,4 +5,3 @@ pub mod Steps
 pub mod Histories
 pub mod Planes
 pub mod Bodies
-pub mod PositionLaws

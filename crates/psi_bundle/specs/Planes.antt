@@ -6,7 +6,7 @@ use Rattle.byteorder.specs.Endian.{big_number}
 use Rattle.psi_residue.specs.Numbers.{plain_modulus}
 use Rattle.psi_residue.specs.Slots.{packed}
 use Rattle.psi_bundle.specs.declared.member.Member.{Member}
-use Rattle.psi_bundle.specs.Tags.{slot_value}
+use Rattle.item_slots.specs.Tags.{slot_value}
 use Rattle.psi_bundle.specs.Bins.{bin_at, roots_of}
 
 -- coefficient k of the product of (x - a) over the roots, modulo the plaintext modulus; 1 where there are none

@@ -6,7 +6,7 @@ use Rattle.std.specs.List.{flat_map, enumerate_from, All, AllPairs, Contains, co
 use Rattle.std.specs.FinMap as fin
 use Rattle.psi_residue.specs.Parameters.{Parameters}
 use Rattle.psi_bundle.specs.declared.member.Member.{Member}
-use Rattle.psi_bundle.specs.Tags.{bins_of_row, positions_of}
+use Rattle.item_slots.specs.Tags.{bins_of_row, positions_of}
 use Rattle.psi_bundle.specs.Bins.{accepts, holds, bin_at, empty_bins, same_tag, shares_slot}
 
 -- labels by tag

@@ -1,12 +1,12 @@
 //! Bundles: 819 bins of members.
 ghost use Rattle.std.specs.Prelude.{◌≡◌, ◌<◌, ◌≤◌, IsTrue, List, ℕ, length, take, drop, ◌++◌, [], ◌∷◌, map, IfOk, slice_set};
 ghost use Rattle.std.specs.List.{list_any};
-ghost use Rattle.psi_bundle.specs.Bins.{accepts, holds, shares_slot, bin_at, empty_bins, relabelled, roots_of};
-ghost use Rattle.psi_bundle.specs.Tags.{slot_value};
+ghost use Rattle.psi_bundle.specs.Bins.{accepts, holds, shares_slot, bin_at, empty_bins, relabelled, roots_of, without};
+ghost use Rattle.item_slots.specs.Tags.{slot_value};
 
 use crate::label::Label;
 use crate::member::Member;
-use crate::tag::{Tag, slots};
+use item_slots::{Tag, slots};
 use std::alloc::{AllocError, Global};
 use std::marker::Model;
 
@@ -99,6 +99,15 @@ impl Bundle {
         )
     }
 
+    /// The bundle without the tag's member in the bin, which holds it. The other members keep their order.
+    pub fn remove(&self, alloc: Global, bin: u16, tag: &Tag) -> Result<Bundle, AllocError>
+        requires in_range { bin < 819 }
+        requires held { IsTrue (holds (bin_at self.now bin) tag.now) }
+        ensures { IfOk result (λ bundle. bundle ≡ slice_set self.now bin (without (bin_at self.now bin) tag.now)) }
+    {
+        self.with_bin(alloc, bin, others(alloc, self.members(bin), tag)?)
+    }
+
     /// Writes the slot values of one part of the bin's members to the front of `out`, in their order, and
     /// gives their number. `out` has room for them.
     pub fn roots(&self, bin: u16, part: u8, out: &mut [u16]) -> usize
@@ -162,6 +171,18 @@ fn with_label(
                 *m
             }
         })
+        .collect(alloc)
+}
+
+// The members of a bin whose tag is another.
+#[tactic(auto, unfolding(crate::specs::Bins::without))]
+fn others(alloc: Global, members: &[Member], tag: &Tag) -> Result<Vec<Member>, AllocError>
+    ensures { IfOk result (λ bin. bin.items ≡ without members.now tag.now) }
+{
+    members
+        .iter()
+        .filter(|m| m.tag != *tag)
+        .map(|m| *m)
         .collect(alloc)
 }
 

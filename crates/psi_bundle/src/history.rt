@@ -1,6 +1,6 @@
 //! What is asked of a set, and what it answers.
 use crate::label::Label;
-use crate::tag::Tag;
+use item_slots::Tag;
 
 /// A call on a set.
 #[derive(Clone, Copy, Drop)]

@@ -1,6 +1,6 @@
 //! A tag with its label.
 use crate::label::Label;
-use crate::tag::Tag;
+use item_slots::Tag;
 
 /// What stands in a bin: a tag, and the label that the sender gives with it.
 #[derive(Clone, Copy, Drop)]

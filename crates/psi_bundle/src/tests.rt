@@ -1,46 +1,8 @@
-//! Worked values, and each call once.
-use crate::{Bundle, Label, Member, Positions, Tag, positions, slots, tag_bytes, tag_from, tag_of};
+//! Each call once.
+use crate::{Bundle, Label, Member, NoCache};
+use item_slots::{Tag, tag_from};
 use std::alloc::Global;
-
-#[test]
-fn tags_of_known_items(rt: HostRuntime) {
-    // The digests are FIPS 180-4's of `abc` and of the empty message; the numbers were read off them by hand.
-    let rows: [(&[u8], [u8; 4], [u16; 5], [u16; 3]); 2] = [
-        (
-            b"abc",
-            [0xba, 0x78, 0x16, 0xbf],
-            [47736, 5823, 36609, 53226, 16705],
-            [178, 571, 608],
-        ),
-        (
-            b"",
-            [0xe3, 0xb0, 0xc4, 0x42],
-            [58288, 50242, 39164, 7188, 39675],
-            [135, 272, 803],
-        ),
-    ];
-    for (item, front, values, places) in rows {
-        let tag = tag_of(item);
-        assert_eq!(rt; &tag_bytes(&tag)[..4], front.as_slice());
-        assert_eq!(rt; slots(&tag), values);
-        assert_eq!(rt; positions(&tag, 1).list(), places.as_slice());
-    }
-}
-
-#[test]
-fn positions_rise_without_repeats(rt: HostRuntime) {
-    let rows: [(u16, u16, u16, &[u16]); 6] = [
-        (1, 2, 3, &[1, 2, 3]),
-        (3, 2, 1, &[1, 2, 3]),
-        (2, 3, 1, &[1, 2, 3]),
-        (5, 5, 4, &[4, 5]),
-        (4, 5, 5, &[4, 5]),
-        (7, 7, 7, &[7]),
-    ];
-    for (a, b, c, want) in rows {
-        assert_eq!(rt; Positions::of(a, b, c).list(), want);
-    }
-}
+use std::sync::Arc;
 
 #[test]
 fn labels_have_at_most_40_bytes(rt: HostRuntime) {
@@ -111,4 +73,29 @@ fn a_label_is_replaced(rt: HostRuntime) {
         [only] => assert_eq!(rt; only.label.bytes(), b"label".as_slice()),
         _ => assert!(rt; false),
     }
+}
+
+// The bundle without a tag in bin 818, where that bin holds it.
+fn removed(alloc: Global, bundle: &Bundle, tag: Tag) -> Option<Bundle> {
+    if !bundle.holds(818, &tag) {
+        return None;
+    }
+    bundle.remove(alloc, 818, &tag).ok()
+}
+
+#[test]
+fn a_removal_closes_the_gap(rt: HostRuntime) {
+    let alloc = rt.alloc();
+    let none = Label::of(b"").expect(&rt, "short");
+    let empty = Bundle::empty(alloc).expect(&rt, "memory");
+    let one = added(alloc, &empty, made_up(1), none, 3).expect(&rt, "accepted");
+    let two = added(alloc, &one, made_up(2), none, 3).expect(&rt, "accepted");
+    let three = added(alloc, &two, made_up(3), none, 3).expect(&rt, "accepted");
+    let gap = removed(alloc, &three, made_up(2)).expect(&rt, "held");
+    let held = [1, 2, 3].map(|value| gap.holds(818, &made_up(value)));
+    assert_eq!(rt; held, [true, false, true]);
+    assert!(rt; removed(alloc, &gap, made_up(2)).is_none());
+    let shared = Arc::new(alloc, gap).expect(&rt, "memory");
+    let cache = NoCache::of(shared);
+    assert!(rt; cache.bundle().holds(818, &made_up(3)));
 }

@@ -6,7 +6,7 @@ use Rattle.std.proofs.lemmas.Bool.{eqb-true}
 use Rattle.psi_residue.specs.Parameters.{parameter_bytes}
 use Rattle.psi_bundle.specs.declared.history.Call.TheVariants as call
 use Rattle.psi_bundle.specs.Steps.{step}
-use Rattle.psi_bundle.specs.Tags.{tag_of}
+use Rattle.item_slots.specs.Tags.{tag_of}
 use Rattle.psi_bundle.specs.Bodies.{reply_body}
 use Rattle.psi_bundle.specs.Versions.{Version}
 use Rattle.psi_frames.specs.declared.frame.Frame.{Frame}

@@ -9,8 +9,8 @@ use Rattle.psi_bundle.specs.declared.member.Member.{Member}
 use Rattle.psi_bundle.specs.declared.history.Call.TheVariants as call
 use Rattle.psi_bundle.specs.declared.history.Answer.{Answer}
 use Rattle.psi_bundle.specs.declared.history.Answer.TheVariants as answer
-use Rattle.psi_bundle.specs.Tags.{positions_of, bins_of_row}
-use Rattle.psi_bundle.specs.PositionLaws.{positions-below, length-positions}
+use Rattle.item_slots.specs.Tags.{positions_of, bins_of_row}
+use Rattle.item_slots.specs.PositionLaws.{positions-below, length-positions}
 use Rattle.psi_bundle.specs.Bins.{relabelled}
 use Rattle.psi_bundle.specs.Versions.{Version, Row, Labels, row_at, placed, placed_at, changed_at, first_fit, planes_of, cells_of}
 use Rattle.psi_bundle.specs.Steps.{Step, step, replace, add, fits, next, unchanged}

@@ -9,7 +9,7 @@ use Rattle.psi_residue.specs.Slots.{packed, packed_at, packed_list, coefficient_
 use Rattle.psi_residue.specs.Sums.{table}
 use Rattle.psi_residue.proofs.Sums.{sum_below-same, length-table, slice_index-table, same_as_table}
 use Rattle.psi_bundle.specs.declared.member.Member.{Member}
-use Rattle.psi_bundle.specs.Tags.{slot_value}
+use Rattle.item_slots.specs.Tags.{slot_value}
 use Rattle.psi_bundle.specs.Bins.{bin_at, roots_of}
 use Rattle.psi_bundle.specs.Planes.{root_coefficient, one_coefficient, slot_coefficient, packed_plane}
 use Rattle.psi_cli.specs.Evaluation.{plane_values}

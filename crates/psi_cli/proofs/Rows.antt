@@ -8,7 +8,7 @@ use Rattle.std.proofs.Math.ListN.{get_or-map}
 use Rattle.psi_cli.specs.declared.set.StampedBundle.{StampedBundle}
 use Rattle.psi_cli.specs.Sets.{stamped_of, row_of}
 use Rattle.psi_bundle.specs.declared.member.Member.{Member}
-use Rattle.psi_bundle.specs.Tags.{bins_of_row}
+use Rattle.item_slots.specs.Tags.{bins_of_row}
 use Rattle.psi_bundle.specs.Bins.{accepts, holds, bin_at, empty_bins, relabelled}
 use Rattle.psi_bundle.specs.Versions.{Stamped, Row, first_fit, joined, fresh, with_bin, placed_at, changed_at, row_at}
 

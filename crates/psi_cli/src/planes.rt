@@ -4,12 +4,13 @@ ghost use Rattle.psi_residue.specs.Numbers.{plain_modulus, ring_degree};
 ghost use Rattle.psi_residue.specs.Polynomials.{IsPolynomial};
 ghost use Rattle.psi_residue.specs.Slots.{packed_list};
 ghost use Rattle.psi_bundle.specs.Bins.{roots_of};
-ghost use Rattle.psi_bundle.specs.Tags.{slot_value};
+ghost use Rattle.item_slots.specs.Tags.{slot_value};
 ghost use Rattle.psi_bundle.specs.Planes.{root_coefficient, slot_coefficient, packed_plane};
 ghost use Rattle.psi_cli.specs.Evaluation.{plane_values};
 
 use crate::packing::pack;
-use psi_bundle::{Bundle, Member, Tag, slots};
+use item_slots::{Tag, slots};
+use psi_bundle::{Bundle, Member};
 use psi_residue::{N, T};
 use std::alloc::{AllocError, Global};
 

@@ -4,7 +4,7 @@ ghost use Rattle.std.specs.List.{All};
 ghost use Rattle.psi_bundle.specs.declared.history.Call.TheVariants as Call;
 ghost use Rattle.psi_bundle.specs.Bodies.{reply_body};
 ghost use Rattle.psi_bundle.specs.Steps.{step};
-ghost use Rattle.psi_bundle.specs.Tags.{tag_of};
+ghost use Rattle.item_slots.specs.Tags.{tag_of};
 ghost use Rattle.psi_bundle.specs.Versions.{empty_version, row_at};
 ghost use Rattle.psi_frames.specs.declared.frame.Frame.{Frame};
 ghost use Rattle.psi_frames.specs.Frames.{reply_bytes, put_kind, ask_kind};
@@ -19,7 +19,8 @@ ghost use Rattle.psi_cli.specs.declared.serve.ServeFault.TheVariants.{BadInput, 
 
 use crate::set::{Put, Set};
 use crate::{evaluation, requests};
-use psi_bundle::{Label, tag_of};
+use item_slots::tag_of;
+use psi_bundle::Label;
 use psi_frames::{ASK, Body, Frame, FramesFault, PUT, Reply, append_answer, whole_frames};
 use std::alloc::{AllocError, Global};
 

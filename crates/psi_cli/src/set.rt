@@ -7,7 +7,8 @@ ghost use Rattle.psi_bundle.specs.Versions.{first_fit, placed_at, changed_at, wi
 ghost use Rattle.psi_cli.specs.FirstInput.{first_parameters};
 ghost use Rattle.psi_cli.specs.Sets.{row_of};
 
-use psi_bundle::{Bundle, Label, Member, Tag, positions};
+use item_slots::{Tag, positions};
+use psi_bundle::{Bundle, Label, Member};
 use std::alloc::{AllocError, Global};
 use std::collections::BTreeMap;
 

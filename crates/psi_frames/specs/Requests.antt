@@ -4,7 +4,7 @@ use Rattle.std.specs.List.{list_all, range_with_len}
 use Rattle.std.specs.Cmp.Lexicographic.{pointwise}
 use Rattle.psi_residue.specs.Parameters.{Parameters, parameter_bytes}
 use Rattle.psi_residue.specs.Numbers.{ring_degree, first_modulus, second_modulus}
-use Rattle.psi_bundle.specs.Tags.{tag_of}
+use Rattle.item_slots.specs.Tags.{tag_of}
 use Rattle.psi_bundle.specs.Bodies.{residue_at}
 use Rattle.psi_bundle.specs.declared.history.Call.{Call}
 use Rattle.psi_bundle.specs.declared.history.Call.TheVariants as call

@@ -1,6 +1,6 @@
 //! The positions of a tag.
 ghost use Rattle.std.specs.Prelude.{◌≡◌, ◌≤◌, ◌<◌, ◌+◌, List, [], ◌∷◌, ℕ, length, take};
-ghost use Rattle.psi_bundle.specs.Tags.{rising, with_number};
+ghost use Rattle.item_slots.specs.Tags.{rising, with_number};
 
 use std::marker::Model;
 

@@ -3,7 +3,7 @@ use Rattle.std.specs.Prelude.{ℕ, ◌+◌, ◌*◌, ◌%◌, ◌<◌, ◌≤◌
 use Rattle.std.specs.List.{All, AllByRecursion}
 use Rattle.std.proofs.Common.{arith}
 use Rattle.std.proofs.lemmas.List.Elements.{All-from_recursion}
-use Rattle.psi_bundle.specs.Tags.{with_number, rising, position_at, positions_of, bins_of_row}
+use Rattle.item_slots.specs.Tags.{with_number, rising, position_at, positions_of, bins_of_row}
 
 either_all : (P : ℕ → Type 0) (b : Bool) (xs ys : List ℕ) → AllByRecursion P xs → AllByRecursion P ys → AllByRecursion P (if b then xs else ys)
 either_all P true xs ys p q = p

@@ -1,6 +1,6 @@
 use Rattle.std.proofs.Common.{ℕ, List, [], ◌∷◌, ◌∙◌, ap}
-use Rattle.psi_bundle.specs.Tags.{slot_value, slot_values}
-use Rattle.psi_bundle.proofs.tag.slots.Goals as goal
+use Rattle.item_slots.specs.Tags.{slot_value, slot_values}
+use Rattle.item_slots.proofs.tag.slots.Goals as goal
 
 pub returns : goal.returns
 unfolding slot_value

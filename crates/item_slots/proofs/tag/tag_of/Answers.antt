@@ -1,6 +1,6 @@
 use Rattle.std.proofs.Common.{◌∙◌, ap, take}
-use Rattle.psi_bundle.specs.Tags.{tag_of}
-use Rattle.psi_bundle.proofs.tag.tag_of.Goals as goal
+use Rattle.item_slots.specs.Tags.{tag_of}
+use Rattle.item_slots.proofs.tag.tag_of.Goals as goal
 
 pub returns : goal.returns
 unfolding tag_of

@@ -1,8 +1,8 @@
 use Rattle.std.proofs.Common.{◌≡◌, ◌≤◌, ◌<◌, ◌*◌, ℕ, List, [], ◌∷◌, ◌∙◌, ap, sym, subst, length}
 use Rattle.std.specs.List.{All}
-use Rattle.psi_bundle.specs.Tags.{position_at, positions_of, rising}
-use Rattle.psi_bundle.specs.PositionLaws.{positions-below, length-positions}
-use Rattle.psi_bundle.proofs.tag.positions.Goals as goal
+use Rattle.item_slots.specs.Tags.{position_at, positions_of, rising}
+use Rattle.item_slots.specs.PositionLaws.{positions-below, length-positions}
+use Rattle.item_slots.proofs.tag.positions.Goals as goal
 
 pub returns : goal.returns
 unfolding position_at

@@ -2,7 +2,7 @@
 ghost use Rattle.std.specs.Prelude.{◌≡◌, ◌≤◌, ◌<◌, ◌*◌, ◌%◌, ◌+◌, List, ℕ, length, drop};
 ghost use Rattle.std.specs.List.{All};
 ghost use Rattle.byteorder.specs.Endian.{big_number};
-ghost use Rattle.psi_bundle.specs.Tags.{tag_of, slot_values, positions_of};
+ghost use Rattle.item_slots.specs.Tags.{tag_of, slot_values, positions_of};
 
 use crate::position_list::Positions;
 use byteorder::{BigEndian, ByteOrder};
