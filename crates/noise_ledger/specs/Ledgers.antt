@@ -1,0 +1,30 @@
+-- The ledger: how much noise a reply may carry in the scheme of Fan and Vercauteren (2012), at the worst, for a capacity, which
+-- is the number of ciphertexts that are summed. The three formulas are this project's own.
+use Rattle.std.specs.Prelude.{ℕ, ◌+◌, ◌*◌, ◌/◌, ◌<◌}
+use Rattle.psi_residue.specs.Numbers.{ring_degree, plain_modulus, cipher_modulus, scale_rest}
+
+-- the greatest coefficient of a plaintext
+abbrev pub greatest_coefficient : ℕ
+greatest_coefficient = 65536
+
+-- the greatest size of a coefficient of an encryption's error
+abbrev pub greatest_error : ℕ
+greatest_error = 21
+
+-- how often the plaintext modulus goes at most into a coefficient of the sum of as many products of two plaintexts as the capacity
+-- says, and of one more plaintext
+unfoldable pub carry_of : ℕ → ℕ
+carry_of capacity = (capacity * (ring_degree * greatest_coefficient * greatest_coefficient) + greatest_coefficient) / plain_modulus + 1
+
+-- the greatest size of a coefficient of the sum's noise: what scaling leaves for each carry, and as many products of an error and
+-- a plaintext as the capacity says
+unfoldable pub noise_of : ℕ → ℕ
+noise_of capacity = scale_rest * carry_of capacity + greatest_error * capacity * (ring_degree * greatest_coefficient)
+
+-- what this noise uses of the ciphertext modulus; a ciphertext opens to its plaintext where it uses less than all
+unfoldable pub used_of : ℕ → ℕ
+used_of capacity = 2 * (plain_modulus * noise_of capacity + scale_rest * greatest_coefficient)
+
+-- the ledger passes
+abbrev pub passes : ℕ → Type 0
+passes capacity = used_of capacity < cipher_modulus
