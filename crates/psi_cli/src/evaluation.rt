@@ -6,7 +6,7 @@ ghost use Rattle.psi_residue.specs.Numbers.{modulus_of, plain_modulus, ring_degr
 ghost use Rattle.psi_residue.specs.Parameters.{parameter_bytes};
 ghost use Rattle.psi_residue.specs.Polynomials.{IsPolynomial};
 ghost use Rattle.psi_residue.specs.Sums.{table};
-ghost use Rattle.psi_bundle.specs.Bodies.{bundle_bytes, query_list, reply_body, residue_at, residue_bytes};
+ghost use Rattle.psi_bundle.specs.Bodies.{bundle_bytes, query_list, reply_body, residue_bytes};
 ghost use Rattle.psi_frames.specs.Requests.{modulus_at, residues_fit, residues_of_query};
 ghost use Rattle.psi_cli.specs.Sets.{row_of};
 ghost use Rattle.psi_cli.specs.FirstInput.{first_parameters};
@@ -14,14 +14,11 @@ ghost use Rattle.psi_cli.specs.Evaluation.{evaluated_residue, evaluated_bytes};
 
 use crate::planes::{RootPlane, root_plane};
 use crate::product::{add_product, add_scaled};
+use crate::requests::{PARAMETERS, residue};
 use crate::set::StampedBundle;
-use byteorder::{BigEndian, ByteOrder};
 use psi_bundle::Bundle;
 use psi_residue::{Modulus, N};
 use std::alloc::{AllocError, Global};
-
-// The 8 bytes of the parameters: form 1, one row, one member a bin, no label units, nothing dropped or spare.
-const PARAMETERS: [u8; 8] = [1, 1, 0, 1, 0, 0, 0, 0];
 
 // One of the four residue lists of a ciphertext (c0, c1).
 #[derive(Clone, Copy)]
@@ -167,15 +164,6 @@ fn residues(alloc: Global, query: &[u8], list: ResidueList) -> Result<Vec<u64>, 
         c.push(residue(query, N * list.number + i))?;
     }
     Ok(c)
-}
-
-// The query's residue number i.
-#[tactic(auto, unfolding(psi_bundle::specs::Bodies::residue_at))]
-fn residue(query: &[u8], i: usize) -> u64
-    requires { 13 + 5 * i ≤ length query.now }
-    ensures { result ≡ residue_at query.now i }
-{
-    BigEndian::read_uint(&query[8 + 5 * i..], 5)
 }
 
 // Appends each residue.

@@ -5,15 +5,11 @@ ghost use Rattle.psi_cli.specs.FirstInput.{first_parameters};
 ghost use Rattle.psi_frames.specs.Requests.{code_of, put_code, drop_code, ask_code, repack_code, residues_fit, modulus_at, has_item, item_of, label_of};
 
 use byteorder::{BigEndian, ByteOrder};
-use psi_frames::Frame;
-use psi_residue::N;
+use psi_frames::{ASK, Frame, PUT};
+use psi_residue::{N, Q1, Q2};
 
-// The kinds of request.
-const PUT: u8 = 1;
-
+// The kind of a frame that takes an item out.
 const DROP: u8 = 2;
-
-const ASK: u8 = 3;
 
 // The codes of refusals.
 const WRONG_LENGTH: u8 = 1;
@@ -28,8 +24,8 @@ const WRONG_ROW: u8 = 5;
 
 const TOO_MANY_ASKS: u8 = 6;
 
-// The parameters of the set, as a query carries them: form 1, one row, one member a bin, no labels.
-const PARAMETERS: [u8; 8] = [1, 1, 0, 1, 0, 0, 0, 0];
+/// The 8 bytes of the parameters: form 1, one row, one member a bin, no label units, nothing dropped or spare.
+pub const PARAMETERS: [u8; 8] = [1, 1, 0, 1, 0, 0, 0, 0];
 
 // The residues of a query: four lists.
 const RESIDUES: usize = 16384;
@@ -39,11 +35,6 @@ const QUERY_LENGTH: usize = 81928;
 
 // The queries that one round answers.
 const ASKS_OF_ROUND: u32 = 32;
-
-// The two moduli of the residues.
-const FIRST_MODULUS: u64 = 68719403009;
-
-const SECOND_MODULUS: u64 = 68719230977;
 
 /// The code of a refusal that the bytes of a request alone decide, from 1 to 6, or 0 where there is none. `asks` is the
 /// number of Asks before it in its round.
@@ -117,16 +108,16 @@ fn residues_fit(body: &[u8], count: usize) -> bool
     ensures { result ≡ residues_fit body.now count }
 {
     for i in 0..count {
-        if residue_at(body, i) >= modulus_at(i) {
+        if residue(body, i) >= modulus_at(i) {
             return false;
         }
     }
     true
 }
 
-// Residue number `i` of a query: five bytes, the highest first.
+/// Residue number `i` of a query: five bytes, the highest first.
 #[tactic(auto, unfolding(psi_bundle::specs::Bodies::residue_at))]
-fn residue_at(body: &[u8], i: usize) -> u64
+pub fn residue(body: &[u8], i: usize) -> u64
     requires { 8 + 5 * (i + 1) ≤ length body.now }
     ensures { result ≡ residue_at body.now i }
 {
@@ -137,11 +128,7 @@ fn residue_at(body: &[u8], i: usize) -> u64
 fn modulus_at(i: usize) -> u64
     ensures { result ≡ modulus_at i }
 {
-    if i / N % 2 == 0 {
-        FIRST_MODULUS
-    } else {
-        SECOND_MODULUS
-    }
+    if i / N % 2 == 0 { Q1 } else { Q2 }
 }
 
 // Whether a body begins with an item: a byte m, then m bytes.
