@@ -120,9 +120,12 @@ module _ {B E Z : Type 0} (base : B → Z) (entries : B → List E) where
         ap (λ (n : ℕ). times x v.own + below x n) k.same_opening ∙ (sum ∙ ap (below x) (sym w));
   }
 
-  places : (s : St) → Ruled base entries s → (id : ℕ) (v : View E Z) (n : ℕ) → get_elem? s.views id ≡ some v → slice_index s.words 2 ≡ n → Places n v
-  places s r id v n here e = let c = r.counted in record {
+  places : (s : St) → Ruled base entries s → (id : ℕ) (v : View E Z) (n : ℕ) → get_elem? s.views id ≡ some v → 1 ≤ v.share → slice_index s.words 2 ≡ n → Places n v
+  places s r id v n here alive e = let c = r.counted in let k = knows s c id v here alive in let all : length c.log ≡ n = sym (ap (λ (ws : List ℕ). slice_index ws 2) c.words) ∙ e in record {
     once = λ x. let a : times x v.own ≤ total (own_in x) s.views = total_at (own_in x) s.views id v here in let b = c.owns x in let o = below_one x (length c.log) in omega arith;
+    within = λ x p. let a : times x v.own ≤ total (own_in x) s.views = total_at (own_in x) s.views id v here in let b = c.owns x in let o = below_one x (length c.log) in let low = below_some x (length c.log) (omega arith) in
+        let same_opening = k.same_opening in
+        (dite (dec_le c.opening x) (λ h. omega arith) (λ h. let l = below_yes x c.opening (lt_of_not-le h) in absurd (omega arith)), omega arith);
     whole = λ all x. r.whole id v here all x ∙ ap (below x) e;
   }
 
@@ -241,7 +244,7 @@ module _ {B E Z : Type 0} (base : B → Z) (entries : B → List E) where
           own = λ x p. let l = k.own x p in omega arith;
         }
         (λ t e. not_inside v.stage Away t free.0 (omega arith) e) (λ _. refl),
-    (c.log, refl, ap (λ (ws : List ℕ). slice_index ws 2) c.words, record { seen = k.seen; taken = k.taken }, places s r id v (slice_index s.words 2) here refl),
+    (c.log, refl, ap (λ (ws : List ℕ). slice_index ws 2) c.words, record { seen = k.seen; taken = k.taken }, places s r id v (slice_index s.words 2) here free.2 refl),
   )
 
   pub checks : (slots id : ℕ) (m : Sat B E Z) → IsFree m → Allows (Ruled base entries) slots id m 2 (λ x. x) (checked (step slots 2 0 0 none) m)
@@ -250,7 +253,7 @@ module _ {B E Z : Type 0} (base : B → Z) (entries : B → List E) where
     keeps,
     tt,
     quiet s c 2 id v v here (λ x. refl) refl refl refl k (λ x e. e) (λ e. e),
-    (refl, (let a : v.share ≤ total share_of s.views = total_at share_of s.views id v here in let b = c.shares in omega arith), places s r id v (slice_index s.words 2) here refl),
+    (refl, (let a : v.share ≤ total share_of s.views = total_at share_of s.views id v here in let b = c.shares in omega arith), places s r id v (slice_index s.words 2) here free.2 refl),
   )
 
   -- at the turn of the seat id nobody is inside
@@ -343,7 +346,7 @@ module _ {B E Z : Type 0} (base : B → Z) (entries : B → List E) where
         keeps,
         tt,
         rule.0,
-        (refl, refl, inl (p.1, refl), places _ rule.0 id w (length log') (there_now s.views id v w here) rule.1),
+        (refl, refl, inl (p.1, refl), places _ rule.0 id w (length log') (there_now s.views id v w here) inside.3 rule.1),
       )
   counts slots id m k log' inside (inr p) fits s r _ here _ = let v : View E Z = m.0 in let c = r.counted in let e : E = p.0 in let own' : List ℕ = v.own ++ length v.seen ∷ [] in
       let w : View E Z = record v { seen = log'; own = own' } in let long : length log' ≡ length v.seen + 1 = ap length p.2 ∙ length-append v.seen (e ∷ []) in
@@ -355,7 +358,7 @@ module _ {B E Z : Type 0} (base : B → Z) (entries : B → List E) where
         keeps,
         tt,
         rule.0,
-        (refl, refl, inr (e, p.2, refl), places _ rule.0 id w (length log') (there_now s.views id v w here) rule.1),
+        (refl, refl, inr (e, p.2, refl), places _ rule.0 id w (length log') (there_now s.views id v w here) inside.3 rule.1),
       )
 
   pub leaves : (slots id : ℕ) (m : Sat B E Z) (b : B) → IsInside (Some b) m → m.0.base ≡ Some (base b) → m.0.seen ≡ entries b
@@ -516,7 +519,7 @@ module _ {B E Z : Type 0} (base : B → Z) (entries : B → List E) where
         end.4 0 (Some b) (ap (λ (hs : List (maybe.Option (Option B))). get_elem? hs 0) home.1),
         k.same_base ∙ ap Some (sym home.2),
         subst (λ (l : List E). Follows l v) (sym all) follows,
-        places s r id v (length (entries b)) here (ap (λ (ws : List ℕ). slice_index ws 2) c.words ∙ ap length (sym all)),
+        places s r id v (length (entries b)) here (omega arith) (ap (λ (ws : List ℕ). slice_index ws 2) c.words ∙ ap length (sym all)),
       )
 
   pub opens_with : (b b' : B) (n : ℕ) (xs : List (Option B)) → n ≡ length (entries b) → xs ≡ Some b ∷ [] → b' ≡ b → Ruled base entries (opening (0 ∷ 0 ∷ n ∷ []) xs (opener base entries b'))

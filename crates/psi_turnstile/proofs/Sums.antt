@@ -97,3 +97,7 @@ module _ {A : Type 0} where
   unfolding total
   total_le f g [] h = omega arith
   total_le f g (x ∷ xs) h = let a = h 0 x refl in let b = total_le f g xs (λ j c e. h (suc j) c e) in omega arith
+
+-- two lists that make one without repeats have nothing in common
+pub apart_in : (ys zs : List ℕ) → ((x : ℕ) → times x (ys ++ zs) ≤ 1) → (x : ℕ) → times x ys + times x zs ≤ 1
+apart_in ys zs once x = let a = times_append x ys zs in let b = once x in omega arith

@@ -53,9 +53,10 @@ module _ {E Z : Type 0} where
     pub seen : IsPrefix v.seen log
     pub taken : ArePrefixes v.taken log
 
-  -- The own places of a seat, where the history has n entries: each once, and with the whole share each place since the opening and no other
+  -- The own places of a seat, where the history has n entries: each once and since the opening, and with the whole share each place since the opening
   pub record Places (n : ℕ) (v : View E Z) : Type 0 where
     pub once : (x : ℕ) → times x v.own ≤ 1
+    pub within : (x : ℕ) → 0 < times x v.own → (v.opening ≤ x) × (x < n)
     pub whole : v.share ≡ 2 ^ 32 → (x : ℕ) → times x v.own + below x v.opening ≡ below x n
 
   -- An act met the history `met` and left the seat with w: nothing was added, or one entry, whose place is the last own place

@@ -8,6 +8,8 @@
 mod kept;
 mod plays;
 mod steps;
+#[cfg(test)]
+mod tests;
 mod turnstile;
 mod view;
 

@@ -1,7 +1,7 @@
 //! The turnstile and its seats.
 ghost use Rattle.std.specs.Prelude.{◌≡◌, ℕ, ◌+◌, ◌^◌, ◌≤◌, List, [], ◌∷◌, length, IfOk, IfErr, Some};
 ghost use Rattle.atomic_table.specs.Seated.{TableId};
-ghost use Rattle.psi_turnstile.specs.Counting.{times, below, IsPrefix, ArePrefixes};
+ghost use Rattle.psi_turnstile.specs.Counting.{times};
 ghost use Rattle.psi_turnstile.specs.Knowing.{Holder, saw, keeps_rest, takes_half, joined, Follows, Places, Added, Keeps};
 ghost use Rattle.psi_turnstile.specs.Rule.{opener};
 ghost use Rattle.psi_turnstile.specs.Telling.{IsFree};
@@ -20,6 +20,7 @@ use std::thread::Threads;
 const WHOLE: u64 = 1 << 32;
 
 /// A ticket lock over one value. In clauses it is the identity of its table.
+#[derive(Drop)]
 pub struct Turnstile<B: Kept> {
     board: Board<B>,
 }
@@ -50,6 +51,7 @@ impl<B: Kept> Model for Seat<B> {
 }
 
 /// There was no memory. The value comes back.
+#[derive(Drop)]
 pub struct OpenRefused<B> {
     pub book: B,
 }
@@ -180,6 +182,7 @@ impl<B: Kept> Turnstile<B> {
         requires other { other.turnstile ≡ self.now }
         ensures here { seat.new.turnstile ≡ seat.old.turnstile }
         ensures joined { seat.new.knows ≡ joined seat.old.knows other.knows }
+        ensures apart { (x : ℕ) → times x seat.old.knows.own + times x other.knows.own ≤ 1 }
         ensures places { (n : ℕ) × Places n seat.new.knows }
     {
         let Seat { token, seen, share } = other;
