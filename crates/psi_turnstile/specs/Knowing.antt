@@ -63,6 +63,15 @@ module _ {E Z : Type 0} where
   abbrev pub Added : List E → List ℕ → View E Z → Type 0
   Added met own w = ((w.seen ≡ met) × (w.own ≡ own)) ⊎ ((e : E) × (w.seen ≡ met ++ e ∷ []) × (w.own ≡ own ++ length met ∷ []))
 
+  -- One turn of a seat, from v to w: the act met a history that begins with all that the seat had seen and taken in. `does` says what the act did to the base, between the history met and the history left
+  pub record Turned (does : Z → List E → List E → Type 0) (v w : View E Z) : Type 0 where
+    pub base : Z
+    pub met : List E
+    pub same_base : v.base ≡ Some base
+    pub follows : Follows met v
+    pub done : does base met w.seen
+    pub added : Added met v.own w
+
   -- base, opening and share stay, and nothing taken in is left
   pub record Keeps (v w : View E Z) : Type 0 where
     pub base : w.base ≡ v.base

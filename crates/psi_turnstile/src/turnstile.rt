@@ -2,7 +2,7 @@
 ghost use Rattle.std.specs.Prelude.{◌≡◌, ℕ, ◌+◌, ◌^◌, ◌≤◌, List, [], ◌∷◌, length, IfOk, IfErr, Some};
 ghost use Rattle.atomic_table.specs.Seated.{TableId};
 ghost use Rattle.psi_turnstile.specs.Counting.{times};
-ghost use Rattle.psi_turnstile.specs.Knowing.{Holder, saw, keeps_rest, takes_half, joined, Follows, Places, Added, Keeps};
+ghost use Rattle.psi_turnstile.specs.Knowing.{Holder, saw, keeps_rest, takes_half, joined, Follows, Places, Turned, Keeps};
 ghost use Rattle.psi_turnstile.specs.Rule.{opener};
 ghost use Rattle.psi_turnstile.specs.Telling.{IsFree};
 
@@ -124,7 +124,7 @@ impl<B: Kept> Turnstile<B> {
         requires here { seat.old.turnstile ≡ self.now }
         requires can { (z : B.Base) → seat.old.knows.base ≡ Some z → A.can act.old z seat.old.knows.seen }
         ensures here { seat.new.turnstile ≡ seat.old.turnstile }
-        ensures act { (met : List B.Entry) × (z : B.Base) × (seat.old.knows.base ≡ Some z) × Follows met seat.old.knows × A.does act.old z met act.new seat.new.knows.seen result.0 × Added met seat.old.knows.own seat.new.knows }
+        ensures act { Turned (λ z met after. A.does act.old z met act.new after result.0) seat.old.knows seat.new.knows }
         ensures follows { Follows seat.new.knows.seen seat.old.knows }
         ensures keeps { Keeps seat.old.knows seat.new.knows }
         ensures places { Places (length seat.new.knows.seen) seat.new.knows }
