@@ -1,21 +1,21 @@
 -- Each step keeps the rule.
-use Rattle.std.proofs.Common.{◌≡◌, ◌≢◌, ℕ, zero, suc, ◌+◌, ◌-◌, ◌/◌, ◌%◌, ◌^◌, ◌<◌, ◌≤◌, ◌⊎◌, List, [], ◌∷◌, ◌++◌, length, set, slice_index, sym, refl, ap, ◌∙◌, subst, ⊎_elim, inl, inr, arith, Option, Some, None, length-append, append-nil, lt_of_not-le}
+use Rattle.std.proofs.Common.{◌≡◌, ◌≢◌, ℕ, zero, suc, ◌+◌, ◌-◌, ◌/◌, ◌%◌, ◌^◌, ◌<◌, ◌≤◌, List, [], ◌∷◌, ◌++◌, length, set, slice_index, sym, refl, ap, ◌∙◌, subst, ⊎_elim, inl, inr, arith, Option, Some, None, length-append, append-nil, lt_of_not-le}
 use mathlib.Core.Logic.{dite}
 use mathlib.Core.Option.{none, some, some-injective, some-ne-none}
 use mathlib.Core.Option as maybe
 use native.Mathlib.Decide.{ℕ_discrete, dec_le}
 use lib.ListN.{get_elem?}
 use lib.Seq.{set-get_or}
-use Rattle.atomic_table.specs.Table.{State, Me, step, Act, keeps, takes, gives, rest, stepped, Allows, Splits, Joins, opening, Final, Seen}
+use Rattle.atomic_table.specs.Table.{State, step, keeps, takes, gives, rest, stepped, Allows, Splits, Joins, opening, Final, Seen}
 use Rattle.atomic_table.proofs.Lists.{at_set, set_else, at_longer, at_snoc, one_turn}
 use Rattle.psi_turnstile.specs.declared.view.Stage.{Stage}
 use Rattle.psi_turnstile.specs.declared.view.Stage.TheVariants.{Away, Waits, Ahead, Inside}
 use Rattle.psi_turnstile.specs.declared.view.View.{View}
 use Rattle.psi_turnstile.specs.Counting.{same, below, times, total, IsPrefix, ArePrefixes}
-use Rattle.psi_turnstile.specs.Knowing.{at, saw, keeps_rest, takes_half, longer, joined, spent, Follows, Places, Added}
+use Rattle.psi_turnstile.specs.Knowing.{at, saw, keeps_rest, takes_half, longer, joined, spent, Follows, Places}
 use Rattle.psi_turnstile.specs.Rule.{ticket_at, in_line_at, ticket_in, in_line, share_of, own_in, Stands, Knows, Shelf, Counted, Ruled, opener}
 use Rattle.psi_turnstile.specs.Telling.{Sat, IsFree, IsWaiting, IsAhead, IsInside, Grows, drew, looked, looked_up, checked, counted, left, went_in}
-use Rattle.psi_turnstile.proofs.Sums.{same_yes, same_no, below_yes, below_no, below_one, below_some, below_next, times_append, times_none, times_one, total_one, total_set, total_push, total_at, total_two, total_none, total_only, total_le}
+use Rattle.psi_turnstile.proofs.Sums.{same_yes, below_yes, below_no, below_one, below_some, below_next, times_append, times_none, times_one, total_one, total_set, total_push, total_at, total_two, total_only, total_le}
 use Rattle.psi_turnstile.proofs.Lines.{begins_self, begins_more, begin_more, begin_both, begins_short, begins_all, longer_begins, longer_long}
 
 there_now : {A : Type 0} (l : List A) (i : ℕ) (a b : A) → get_elem? l i ≡ some a → get_elem? (set l i b) i ≡ some b

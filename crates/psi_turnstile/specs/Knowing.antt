@@ -1,5 +1,5 @@
 -- What a seat knows, and how the calls of the turnstile change it.
-use Rattle.std.specs.Prelude.{◌≡◌, ℕ, ◌+◌, ◌-◌, ◌/◌, ◌^◌, ◌<◌, ◌≤◌, ◌⊎◌, List, [], ◌∷◌, ◌++◌, length, cond, ltb, Option, Some, None}
+use Rattle.std.specs.Prelude.{◌≡◌, ℕ, ◌+◌, ◌-◌, ◌/◌, ◌^◌, ◌<◌, ◌≤◌, ◌⊎◌, List, [], ◌∷◌, ◌++◌, length, cond, ltb, Some, None}
 use Rattle.atomic_table.specs.Seated.{TableId}
 use Rattle.psi_turnstile.specs.declared.view.Stage.{Stage}
 use Rattle.psi_turnstile.specs.declared.view.Stage.TheVariants.{Away}

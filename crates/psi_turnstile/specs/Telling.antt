@@ -1,7 +1,6 @@
 -- What each step on the table tells the seat that makes it.
-use Rattle.std.specs.Prelude.{◌≡◌, ◌≢◌, ℕ, ◌+◌, ◌%◌, ◌^◌, ◌<◌, ◌≤◌, ◌⊎◌, List, [], ◌∷◌, ◌++◌, length, Option, Some, None}
+use Rattle.std.specs.Prelude.{◌≡◌, ◌≢◌, ℕ, ◌%◌, ◌^◌, ◌≤◌, ◌⊎◌, List, [], ◌∷◌, ◌++◌, length, Option, Some}
 use Rattle.atomic_table.specs.Table.{Me, Step}
-use Rattle.psi_turnstile.specs.declared.view.Stage.{Stage}
 use Rattle.psi_turnstile.specs.declared.view.Stage.TheVariants.{Away, Waits, Ahead, Inside}
 use Rattle.psi_turnstile.specs.declared.view.View.{View}
 use Rattle.psi_turnstile.specs.Knowing.{at, saw, Follows, Places, Added}

@@ -1,6 +1,5 @@
 //! The steps of a turn, in order: draw a ticket, wait for it, take the value, count what was added, give the value back.
-ghost use Rattle.std.specs.Prelude.{◌≡◌, ℕ, ◌+◌, ◌%◌, ◌^◌, ◌<◌, [], ◌∷◌, length, Some, None};
-ghost use Rattle.atomic_table.specs.Seated.{TableId};
+ghost use Rattle.std.specs.Prelude.{◌≡◌, ℕ, ◌%◌, ◌^◌, ◌<◌, [], ◌∷◌, length, Some, None};
 ghost use Rattle.psi_turnstile.specs.declared.view.Stage.TheVariants.{Away, Waits, Ahead, Inside};
 ghost use Rattle.psi_turnstile.specs.Knowing.{at, saw, Follows, Places, Added};
 ghost use Rattle.psi_turnstile.specs.Telling.{IsFree, IsWaiting, IsAhead, IsInside, Grows};

@@ -1,5 +1,5 @@
 //! The turnstile and its seats.
-ghost use Rattle.std.specs.Prelude.{◌≡◌, ℕ, ◌+◌, ◌^◌, ◌≤◌, List, [], ◌∷◌, length, IfOk, IfErr, Some};
+ghost use Rattle.std.specs.Prelude.{◌≡◌, ℕ, ◌+◌, ◌^◌, ◌≤◌, [], ◌∷◌, length, IfOk, IfErr, Some};
 ghost use Rattle.atomic_table.specs.Seated.{TableId};
 ghost use Rattle.psi_turnstile.specs.Counting.{times};
 ghost use Rattle.psi_turnstile.specs.Knowing.{Holder, saw, keeps_rest, takes_half, joined, Follows, Places, Turned, Keeps};

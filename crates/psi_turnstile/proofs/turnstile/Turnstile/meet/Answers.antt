@@ -1,4 +1,4 @@
-use Rattle.std.proofs.Common.{rules, subst}
+use Rattle.std.proofs.Common.{subst}
 use Rattle.psi_turnstile.specs.Knowing.{Follows}
 use Rattle.psi_turnstile.proofs.Lines.{follows_first, follows_second}
 use Rattle.psi_turnstile.proofs.turnstile.Turnstile.meet.Goals as goal
