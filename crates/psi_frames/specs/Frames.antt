@@ -70,19 +70,22 @@ pub data Fault : Type 0 where
 abbrev pub is_frame_length : ℕ → Bool
 is_frame_length n = nat_le head_bytes n && nat_le n greatest_length
 
--- What keeps a whole frame from the front of some bytes: none where one begins them. The length word comes first, then the kind.
+-- What keeps a whole frame from the front of some bytes: none where there are no bytes, or where a whole frame begins them. The
+-- length word comes first, then the kind.
 unfoldable pub front_fault : List ℕ → Option Fault
 front_fault bytes =
     let n = big_number 4 bytes in
     let kind = slice_index bytes 4 in
-    if nat_lt (length bytes) 4 then Some Short
+    if nat_eq (length bytes) 0 then None
+    else (if nat_lt (length bytes) 4 then Some Short
     else (if not (is_frame_length n) then Some (Length n)
     else (if nat_lt (length bytes) 5 then Some Short
     else (if not (is_request_kind kind) then Some (Kind kind)
     else (if nat_eq kind go_kind && not (nat_eq n head_bytes) then Some (Length n)
-    else (if nat_lt (length bytes) (4 + n) then Some Short else None)))))
+    else (if nat_lt (length bytes) (4 + n) then Some Short else None))))))
 
--- The bytes are these whole frames, and then a rest that is nothing, or that begins no whole frame for this fault.
+-- The bytes are these whole frames, and then a rest that is nothing, or that begins no whole frame, for this fault. Of an input
+-- the first 2^40 bytes are looked at.
 pub record IsCut (bytes : List ℕ) (frames : List Frame) (rest : List ℕ) (fault : Option Fault) : Type 0 where
   pub whole : bytes ≡ frames_bytes frames ++ rest
   pub each : All IsFrame frames
