@@ -1,6 +1,7 @@
--- The body of a reply to a query: each plane of each bundle, evaluated at the encrypted powers (Chen, Laine, Rindal, CCS 2017).
-use Rattle.std.specs.Prelude.{ℕ, Bool, false, true, ◌+◌, ◌*◌, ◌%◌, List, [], ◌∷◌, ◌++◌, length, drop, slice_index, if◌then◌else◌}
-use Rattle.std.specs.List.{flat_map, enumerate_from, range_with_len}
+-- The bodies of queries and replies: a reply has each plane of each bundle, evaluated at the query's encrypted powers (Chen, Laine,
+-- Rindal, CCS 2017).
+use Rattle.std.specs.Prelude.{ℕ, Bool, false, true, ◌+◌, ◌*◌, ◌/◌, ◌%◌, nat_eq, nat_lt, List, [], ◌∷◌, ◌++◌, length, drop, slice_index, if◌then◌else◌}
+use Rattle.std.specs.List.{flat_map, list_all, enumerate_from, range_with_len}
 use Rattle.byteorder.specs.Endian.{big_number, big_bytes}
 use Rattle.psi_residue.specs.Parameters.{Parameters, parameter_bytes}
 use Rattle.psi_residue.specs.Sums.{sum_below, table}
@@ -17,6 +18,18 @@ ciphertext_lists = (true, first_modulus) ∷ (true, second_modulus) ∷ (false, 
 -- a body's 40-bit number i behind its header of 8 bytes
 unfoldable pub residue_at : List ℕ → ℕ → ℕ
 residue_at body i = big_number 5 (drop (8 + 5 * i) body)
+
+-- the residues of a query: four lists for each ciphertext, one ciphertext for each row and power
+abbrev pub residues_of_query : Parameters → ℕ
+residues_of_query p = 4 * ring_degree * (p.rows * p.capacity)
+
+-- the modulus of residue number i: the lists go by the first and the second modulus in turn
+abbrev pub modulus_at : ℕ → ℕ
+modulus_at i = if nat_eq (i / ring_degree % 2) 0 then first_modulus else second_modulus
+
+-- each of the first n residues of a body is below its modulus
+unfoldable pub residues_fit : List ℕ → ℕ → Bool
+residues_fit body n = list_all (λ i. nat_lt (residue_at body i) (modulus_at i)) (range_with_len 0 n)
 
 -- residue list number l of ciphertext c of a query body
 unfoldable pub query_list : List ℕ → (c l : ℕ) → List ℕ

@@ -1,5 +1,6 @@
 pub mod Labels
 pub mod Bins
+pub mod Shares
 pub mod Versions
 pub mod Steps
 pub mod Histories

@@ -1,6 +1,9 @@
 //! Bundles: 819 bins of members.
+//!
+//! Bundles share their bins: a change of one bin copies that bin's members and the handles of the others.
 ghost use Rattle.std.specs.Prelude.{◌≡◌, ◌<◌, ◌≤◌, IsTrue, List, ℕ, length, take, drop, ◌++◌, [], ◌∷◌, map, IfOk, slice_set};
 ghost use Rattle.std.specs.List.{list_any};
+ghost use Rattle.psi_bundle.specs.Shares.{shared_bins};
 ghost use Rattle.psi_bundle.specs.Bins.{accepts, holds, shares_slot, bin_at, empty_bins, relabelled, roots_of, without};
 ghost use Rattle.item_slots.specs.Tags.{slot_value};
 
@@ -9,20 +12,22 @@ use crate::member::Member;
 use item_slots::{Tag, slots};
 use std::alloc::{AllocError, Global};
 use std::marker::Model;
+use std::sync::Arc;
 
 /// 819 bins of members.
 #[derive(Drop)]
 pub struct Bundle {
-    bins: Vec<Vec<Member>>,
+    bins: Vec<Arc<Vec<Member>>>,
 }
 
 impl Model for Bundle {
-    ghost use Rattle.std.specs.Prelude.{◌≡◌, List, map, length};
+    ghost use Rattle.std.specs.Prelude.{◌≡◌, List, length};
     ghost use Rattle.psi_bundle.specs.declared.member.Member.{Member};
+    ghost use Rattle.psi_bundle.specs.Shares.{shared_bins};
 
     ghost Value = { List (List Member) };
 
-    ghost view = { λ b. map (λ bin. bin.items) b.bins.items };
+    ghost view = { λ b. shared_bins b.bins.items };
 
     ghost invariant = { λ b. length b.bins.items ≡ 819 };
 }
@@ -33,9 +38,10 @@ impl Bundle {
     pub fn empty(alloc: Global) -> Result<Bundle, AllocError>
         ensures { IfOk result (λ bundle. bundle ≡ empty_bins) }
     {
+        let none = Arc::new(alloc, Vec::new(alloc))?;
         let mut bins = Vec::with_capacity(alloc, 819)?;
         for _made in 0..819usize {
-            bins.push(Vec::new(alloc))?;
+            bins.push(none.clone()?)?;
         }
         Ok(Bundle { bins })
     }
@@ -126,19 +132,20 @@ impl Bundle {
         requires { bin < 819 }
         ensures { IfOk result (λ bundle. bundle ≡ slice_set self.now bin members.items) }
     {
-        let mut bins = copied(alloc, &self.bins)?;
-        bins[bin as usize] = members;
+        let mut bins = shared(alloc, &self.bins)?;
+        let changed = Arc::new(alloc, members)?;
+        bins[bin as usize] = changed;
         Ok(Bundle { bins })
     }
 }
 
-// The bins with their members, once more.
-fn copied(alloc: Global, bins: &[Vec<Member>]) -> Result<Vec<Vec<Member>>, AllocError>
-    ensures { IfOk result (λ copy. map (λ bin. bin.items) copy.items ≡ map (λ bin. bin.items) bins.now) }
+// Handles of the same bins.
+fn shared(alloc: Global, bins: &[Arc<Vec<Member>>]) -> Result<Vec<Arc<Vec<Member>>>, AllocError>
+    ensures { IfOk result (λ copy. shared_bins copy.items ≡ shared_bins bins.now) }
 {
     let mut copy = Vec::with_capacity(alloc, bins.len())?;
     for bin in bins {
-        copy.push(Vec::from_slice(alloc, bin)?)?;
+        copy.push(bin.clone()?)?;
     }
     Ok(copy)
 }

@@ -1,110 +1,130 @@
--- The coefficients of a root plane, slot by slot and packed.
-use Rattle.std.proofs.Common.{◌≡◌, ℕ, zero, suc, Bool, true, false, ◌+◌, ◌-◌, ◌*◌, ◌/◌, ◌%◌, ◌^◌, ◌<◌, ◌≤◌, List, [], ◌∷◌, ◌++◌, length, take, drop, get_or, nat_lt, if◌then◌else◌, refl, ap, ◌∙◌, sym, arith}
+-- The polynomials of a root plane, slot by slot, and their coefficients over the slots.
+use Rattle.std.proofs.Common.{◌≡◌, ℕ, zero, suc, Bool, true, false, ◌+◌, ◌-◌, ◌*◌, ◌/◌, ◌%◌, ◌^◌, ◌<◌, ◌≤◌, List, [], ◌∷◌, ◌++◌, length, map, take, get_or, nat_lt, replicate, if◌then◌else◌, refl, ap, ◌∙◌, sym, subst, arith, lt-ltb, le-ltb}
+use Rattle.std.specs.Prelude.{Result, Ok, Err, IfOk}
 use Rattle.std.proofs.Math.Nat.{mod-lt}
-use Rattle.std.proofs.Math.Seq.{take-length}
-use Rattle.std.proofs.lemmas.List.{length-drop}
-use Rattle.psi_residue.specs.Numbers.{plain_modulus, root_inverse, degree_inverse}
+use Rattle.std.proofs.lemmas.List.{length-map, get_or-map}
+use Rattle.psi_residue.specs.Numbers.{plain_modulus, ring_degree, root_inverse, degree_inverse}
 use Rattle.psi_residue.specs.Polynomials.{IsPolynomial}
+use Rattle.psi_residue.specs.RootPolynomials.{root_coefficient}
 use Rattle.psi_residue.specs.Slots.{packed, packed_at, packed_list, coefficient_from}
 use Rattle.psi_residue.specs.Sums.{table}
 use Rattle.psi_residue.proofs.Sums.{sum_below-same, length-table, slice_index-table, same_as_table}
 use Rattle.psi_bundle.specs.declared.member.Member.{Member}
-use Rattle.item_slots.specs.Tags.{slot_value}
 use Rattle.psi_bundle.specs.Bins.{bin_at, roots_of}
-use Rattle.psi_bundle.specs.Planes.{root_coefficient, one_coefficient, slot_coefficient, packed_plane}
-use Rattle.psi_cli.specs.Evaluation.{plane_values}
-use Rattle.psi_cli.proofs.Tables.{table-none, table-more, table-same}
+use Rattle.psi_bundle.specs.Planes.{one_coefficient, slot_coefficient, packed_plane}
+use Rattle.psi_cli.specs.Evaluation.{IsRootPlane, IsSlotPolynomial, column, root_factors}
+use Rattle.psi_cli.proofs.Tables.{table-same}
 
-pub plane_values-none : (bins : List (List Member)) (k : ℕ) → [] ≡ plane_values bins k 0
-unfolding plane_values
-plane_values-none bins k = sym (table-none (λ slot. slot_coefficient bins 0 slot k))
+-- a coefficient over the slots
+column-at : (capacity : ℕ) (bins : List (List Member)) (plane : List (List ℕ)) (k slot : ℕ) → IsRootPlane capacity bins plane → k ≤ capacity → slot < ring_degree
+    → get_or (column plane k) slot 0 ≡ slot_coefficient bins 0 slot k
+column-at capacity bins plane k slot h le lt =
+    get_or-map (λ (coefficients : List ℕ). get_or coefficients k 0) plane slot [] 0 (omega (arith, h.size, lt)) ∙ (h.each slot lt).each k le
 
-pub plane_values-more : (bins : List (List Member)) (k n y : ℕ) (xs : List ℕ) → xs ≡ plane_values bins k n → y ≡ slot_coefficient bins 0 n k → xs ++ y ∷ [] ≡ plane_values bins k (n + 1)
-unfolding plane_values
-plane_values-more bins k n y xs before here =
-    ap (λ (zs : List ℕ). zs ++ y ∷ []) before
-    ∙ ap (λ (z : ℕ). table n (λ slot. slot_coefficient bins 0 slot k) ++ z ∷ []) here
-    ∙ sym (table-more n (λ slot. slot_coefficient bins 0 slot k))
+-- they are plaintext values
+pub column-plaintext : (capacity : ℕ) (bins : List (List Member)) (plane : List (List ℕ)) (k : ℕ) → IsRootPlane capacity bins plane → k ≤ capacity → IsPolynomial plain_modulus (column plane k)
+column-plaintext capacity bins plane k h le = record {
+  size = length-map plane (λ (coefficients : List ℕ). get_or coefficients k 0) ∙ h.size;
+  below = λ slot lt. subst (λ (c : ℕ). c < plain_modulus) (sym (get_or-map (λ (coefficients : List ℕ). get_or coefficients k 0) plane slot [] 0 (omega (arith, h.size, lt)))) ((h.each slot lt).below k);
+}
 
-root_coefficient-below : (roots : List ℕ) (k : ℕ) → root_coefficient roots k < 65537
+-- packing reads the values of the slots alone
+packed_at-same : (n : ℕ) (v w : ℕ → ℕ) (i : ℕ) → n ≡ ring_degree → ((j : ℕ) → j < n → v j ≡ w j) → packed_at v i ≡ packed_at w i
+unfolding packed_at coefficient_from
+packed_at-same n v w i e h =
+    ap (λ (u : ℕ). (degree_inverse * u) % plain_modulus)
+    (sum_below-same ring_degree (λ j. v j * root_inverse ^ ((2 * j + 1) * i)) (λ j. w j * root_inverse ^ ((2 * j + 1) * i)) (λ j lt. ap (λ (u : ℕ). u * root_inverse ^ ((2 * j + 1) * i)) (h j (omega (arith, e, lt)))))
+
+-- packed, they are the plane's factor
+pub column-packed : (capacity : ℕ) (bins : List (List Member)) (plane : List (List ℕ)) (k : ℕ) → IsRootPlane capacity bins plane → k ≤ capacity → packed_list (column plane k) ≡ root_factors bins k
+unfolding packed_list packed
+column-packed capacity bins plane k h le =
+    table-same ring_degree (packed_at (λ j. get_or (column plane k) j 0)) (packed_at (λ slot. slot_coefficient bins 0 slot k))
+    (λ i lt. packed_at-same ring_degree (λ j. get_or (column plane k) j 0) (λ slot. slot_coefficient bins 0 slot k) i refl (λ j below. column-at capacity bins plane k j h le below))
+
+-- each slot's polynomial reaches every power up to the capacity
+pub plane-reaches : (capacity : ℕ) (bins : List (List Member)) (plane : List (List ℕ)) (k slot : ℕ) → IsRootPlane capacity bins plane → k ≤ capacity → slot < length plane → k < length (get_or plane slot [])
+plane-reaches capacity bins plane k slot h le lt = let size = (h.each slot (omega (arith, h.size, lt))).size in omega (arith, size, le)
+
+-- ---- one slot
+
+-- a slot below the last one has the roots of its part
+pub slot-roots : (bins : List (List Member)) (slot k : ℕ) → slot < 4095 → root_coefficient (roots_of (bin_at bins (slot / 5)) (slot % 5)) k ≡ slot_coefficient bins 0 slot k
+unfolding slot_coefficient
+slot-roots bins slot k lt = let test : nat_lt slot 4095 ≡ true = lt-ltb slot 4095 lt in rw test refl
+
+-- the last slot has the constant 1
+pub slot-last : (bins : List (List Member)) (slot k : ℕ) → 4095 ≤ slot → one_coefficient k ≡ slot_coefficient bins 0 slot k
+unfolding slot_coefficient
+slot-last bins slot k le = let test : nat_lt slot 4095 ≡ false = le-ltb slot 4095 le in rw test refl
+
+-- ---- the plane, slot by slot
+
+-- a claim on each list that goes on to one more
+pub each-push : {X : Type 0} (f : X → List ℕ) (P : ℕ → List ℕ → Type 0) (xs : List X) (x : X) (n : ℕ) → length xs ≡ n → ((s : ℕ) → s < n → P s (get_or (map f xs) s [])) → P n (f x)
+    → (s : ℕ) → s < n + 1 → P s (get_or (map f (xs ++ x ∷ [])) s [])
+each-push f P [] x n size each last zero lt = subst (λ (i : ℕ). P i (f x)) (sym size) last
+each-push f P [] x n size each last (suc s) lt = absurd (omega arith)
+each-push f P (y ∷ ys) x zero size each last s lt = absurd (omega arith)
+each-push f P (y ∷ ys) x (suc n) size each last zero lt = each 0 (omega arith)
+each-push f P (y ∷ ys) x (suc n) size each last (suc s) lt =
+    each-push f (λ i. P (suc i)) ys x n (omega arith) (λ i below. each (suc i) (omega arith)) last s (omega arith)
+
+-- one more coefficient of a power
+pub columns-more : {X : Type 0} (f : X → List ℕ) (xs : List X) (k i : ℕ) (x : X) → i < length xs → x ≡ get_or xs i x
+    → column (map f (take (i + 1) xs)) k ≡ column (map f (take i xs)) k ++ get_or (f x) k 0 ∷ []
+columns-more f [] k i x lt is = absurd (omega arith)
+columns-more {X = X} f (y ∷ ys) k zero x lt is = ap (λ (z : X). get_or (f z) k 0 ∷ []) (sym is)
+columns-more {X = X} f (y ∷ ys) k (suc i) x lt is =
+    let one : suc i + 1 ≡ suc (i + 1) = omega arith in
+    ap (λ (n : ℕ). column (map f (take n (y ∷ ys))) k) one ∙ ap (λ (zs : List ℕ). get_or (f y) k 0 ∷ zs) (columns-more f ys k i x (omega arith) is)
+
+-- coefficients are below the plaintext modulus
+pub root_coefficient-below : (roots : List ℕ) (k : ℕ) → root_coefficient roots k < plain_modulus
 unfolding root_coefficient
 root_coefficient-below [] zero = omega arith
 root_coefficient-below [] (suc k) = omega arith
-root_coefficient-below (a ∷ roots) zero = mod-lt ((65537 - a) * root_coefficient roots zero) (omega arith)
-root_coefficient-below (a ∷ roots) (suc k) = mod-lt (root_coefficient roots k + (65537 - a) * root_coefficient roots (suc k)) (omega arith)
+root_coefficient-below (a ∷ roots) zero = mod-lt ((plain_modulus - a) * root_coefficient roots zero) (omega arith)
+root_coefficient-below (a ∷ roots) (suc k) = mod-lt (root_coefficient roots k + (plain_modulus - a) * root_coefficient roots (suc k)) (omega arith)
 
-one_coefficient-below : (k : ℕ) → one_coefficient k < 65537
+one_coefficient-below : (k : ℕ) → one_coefficient k < plain_modulus
 one_coefficient-below zero = omega arith
 one_coefficient-below (suc k) = omega arith
 
-choice-below : (b : Bool) (x y m : ℕ) → x < m → y < m → (if b then x else y) < m
-choice-below true x y m p q = p
-choice-below false x y m p q = q
+-- the polynomial of a slot, by its roots or as the constant 1
+pub slot-by_roots : (capacity : ℕ) (bins : List (List Member)) (slot : ℕ) (xs : List ℕ) → slot < 4095 → length xs ≡ capacity + 1
+    → ((k : ℕ) → get_or xs k 0 ≡ root_coefficient (roots_of (bin_at bins (slot / 5)) (slot % 5)) k) → IsSlotPolynomial capacity bins slot xs
+slot-by_roots capacity bins slot xs lt size each = record {
+  size = size;
+  each = λ k le. each k ∙ slot-roots bins slot k lt;
+  below = λ k. subst (λ (c : ℕ). c < plain_modulus) (sym (each k)) (root_coefficient-below (roots_of (bin_at bins (slot / 5)) (slot % 5)) k);
+}
 
-slot_coefficient-below : (bins : List (List Member)) (slot k : ℕ) → slot_coefficient bins 0 slot k < 65537
-unfolding slot_coefficient
-slot_coefficient-below bins slot k =
-    choice-below (nat_lt slot 4095) _ _ 65537 (root_coefficient-below (roots_of (bin_at bins (slot / 5)) (slot % 5)) k) (one_coefficient-below k)
+pub slot-by_one : (capacity : ℕ) (bins : List (List Member)) (slot : ℕ) (xs : List ℕ) → 4095 ≤ slot → length xs ≡ capacity + 1
+    → ((k : ℕ) → get_or xs k 0 ≡ one_coefficient k) → IsSlotPolynomial capacity bins slot xs
+slot-by_one capacity bins slot xs le size each = record {
+  size = size;
+  each = λ k _. each k ∙ slot-last bins slot k le;
+  below = λ k. subst (λ (c : ℕ). c < plain_modulus) (sym (each k)) (one_coefficient-below k);
+}
 
--- the values of all slots are those of a polynomial
-pub plane_values-plaintext : (bins : List (List Member)) (k : ℕ) (xs : List ℕ) → xs ≡ plane_values bins k 4096 → IsPolynomial plain_modulus xs
-unfolding plane_values
-plane_values-plaintext bins k xs e =
-    let f = λ (slot : ℕ). slot_coefficient bins 0 slot k in
-    rw e (record { size = length-table 4096 f; below = λ i lt. rw (slice_index-table 4096 f i lt) (slot_coefficient-below bins i k) })
+-- zeros behind a list change none of its coefficients
+pub coefficient-resized : (xs : List ℕ) (n k : ℕ) → get_or (xs ++ replicate n 0) k 0 ≡ get_or xs k 0
+coefficient-resized [] zero k = refl
+coefficient-resized [] (suc n) zero = refl
+coefficient-resized [] (suc n) (suc k) = coefficient-resized [] n k
+coefficient-resized (x ∷ xs) n zero = refl
+coefficient-resized (x ∷ xs) n (suc k) = coefficient-resized xs n k
 
--- packing reads the values of the slots alone
-packed_at-same : (v w : ℕ → ℕ) (i : ℕ) → ((j : ℕ) → j < 4096 → v j ≡ w j) → packed_at v i ≡ packed_at w i
-unfolding packed_at coefficient_from
-packed_at-same v w i h =
-    ap (λ (u : ℕ). (degree_inverse * u) % 65537)
-    (sum_below-same 4096 (λ j. v j * root_inverse ^ ((2 * j + 1) * i)) (λ j. w j * root_inverse ^ ((2 * j + 1) * i)) (λ j lt. ap (λ (u : ℕ). u * root_inverse ^ ((2 * j + 1) * i)) (h j lt)))
+-- each polynomial of a plane that is kept some other way reaches a power up to the capacity
+pub vectors-reach : {X : Type 0} (f : X → List ℕ) (capacity : ℕ) (bins : List (List Member)) (xs : List X) (power : ℕ) → IsRootPlane capacity bins (map f xs) → power ≤ capacity
+    → (k : ℕ) (d : X) → k < length xs → power < length (f (get_or xs k d))
+vectors-reach f capacity bins xs power h le k d lt =
+    let at = get_or-map f xs k d [] lt in
+    let size = length-map xs f in
+    subst (λ (coefficients : List ℕ). power < length coefficients) at (plane-reaches capacity bins (map f xs) power k h le (omega (arith, size, lt)))
 
--- the values of all slots, packed
-pub packed-plane : (bins : List (List Member)) (k : ℕ) (values out : List ℕ) → values ≡ plane_values bins k 4096 → out ≡ packed_list values → out ≡ packed_plane bins 0 k
-unfolding packed_list packed plane_values
-packed-plane bins k values out values-are out-is =
-    let f = λ (slot : ℕ). slot_coefficient bins 0 slot k in
-    out-is ∙ ap (λ (vs : List ℕ). packed_list vs) values-are
-    ∙ table-same 4096 (packed_at (λ j. get_or (table 4096 f) j 0)) (packed_at f) (λ i lt. packed_at-same (λ j. get_or (table 4096 f) j 0) f i (λ j below. slice_index-table 4096 f j below))
-
--- a list of packed coefficients is the packed list
-pub packed_list-is : (values out : List ℕ) → IsPolynomial plain_modulus out → ((i : ℕ) → i < 4096 → get_or out i 0 ≡ packed_at (λ j. get_or values j 0) i) → out ≡ packed_list values
-unfolding packed_list packed
-packed_list-is values out plaintext each = same_as_table 4096 (packed_at (λ j. get_or values j 0)) out plaintext.size each
-
--- ---- the coefficients of one slot, root by root
-
--- what stands behind the first member
-pub rest-is : (members : List Member) → take (length members - 1) (drop 1 members) ≡ drop 1 members
-rest-is members = ap (λ (n : ℕ). take n (drop 1 members)) (sym (length-drop 1 members)) ∙ take-length (drop 1 members)
-
-pub no_roots-constant : (members : List Member) (part : ℕ) → length members < 1 → 1 ≡ root_coefficient (roots_of members part) 0
-unfolding root_coefficient
-no_roots-constant [] part h = refl
-no_roots-constant (m ∷ ms) part h = absurd (omega arith)
-
-pub no_roots-linear : (members : List Member) (part : ℕ) → length members < 1 → 0 ≡ root_coefficient (roots_of members part) 1
-unfolding root_coefficient
-no_roots-linear [] part h = refl
-no_roots-linear (m ∷ ms) part h = absurd (omega arith)
-
-module _ (part root constant linear value : ℕ) where
-  pub one_root-constant : (members : List Member) (first : Member) → 1 ≤ length members → first ≡ get_or members 0 first → root ≡ slot_value first.tag part
-      → constant ≡ root_coefficient (roots_of (drop 1 members) part) 0 → value ≡ (65537 - root) * constant % 65537 → value ≡ root_coefficient (roots_of members part) 0
-  unfolding root_coefficient
-  one_root-constant [] first h first-is root-is constant-is value-is = absurd (omega arith)
-  one_root-constant (m ∷ ms) first h first-is root-is constant-is value-is =
-      let root-of : root ≡ slot_value m.tag part = root-is ∙ ap (λ (u : Member). slot_value u.tag part) first-is in
-      value-is ∙ ap (λ (u : ℕ). (65537 - u) * constant % 65537) root-of ∙ ap (λ (u : ℕ). (65537 - slot_value m.tag part) * u % 65537) constant-is
-
-  pub one_root-linear : (members : List Member) (first : Member) → 1 ≤ length members → first ≡ get_or members 0 first → root ≡ slot_value first.tag part
-      → constant ≡ root_coefficient (roots_of (drop 1 members) part) 0 → linear ≡ root_coefficient (roots_of (drop 1 members) part) 1
-      → value ≡ (constant + (65537 - root) * linear) % 65537 → value ≡ root_coefficient (roots_of members part) 1
-  unfolding root_coefficient
-  one_root-linear [] first h first-is root-is constant-is linear-is value-is = absurd (omega arith)
-  one_root-linear (m ∷ ms) first h first-is root-is constant-is linear-is value-is =
-      let root-of : root ≡ slot_value m.tag part = root-is ∙ ap (λ (u : Member). slot_value u.tag part) first-is in
-      value-is ∙ ap (λ (u : ℕ). (constant + (65537 - u) * linear) % 65537) root-of
-      ∙ ap (λ (u : ℕ). (u + (65537 - slot_value m.tag part) * linear) % 65537) constant-is
-      ∙ ap (λ (u : ℕ). (root_coefficient (roots_of ms part) 0 + (65537 - slot_value m.tag part) * u) % 65537) linear-is
+-- two facts of an Ok value give a third
+pub both-told : {T E : Type 0} (r : Result T E) (P Q R : T → Type 0) → ((v : T) → P v → Q v → R v) → IfOk r P → IfOk r Q → IfOk r R
+both-told (Ok v) P Q R f p q = f v p q
+both-told (Err e) P Q R f p q = tt

@@ -1,7 +1,6 @@
 pub mod Evaluation
-pub mod FirstInput
+pub mod Inputs
 pub mod Reading
 pub mod Runs
 pub mod Serving
-pub mod Sets
 pub mod Words

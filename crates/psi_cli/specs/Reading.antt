@@ -21,5 +21,5 @@ pub record HasReadCause {T : Type 0} (before now : ℕ) (result : Result T ReadE
 -- more bytes were left than the limit, where they are told, if the answer says so
 abbrev pub IsLonger : Option (List ℕ) → ReadEnd → Type 0
 IsLonger left end.Failed = ⊤
-IsLonger left end.TooLong = IfSome left (λ bytes. 2 ^ 22 < length bytes)
+IsLonger left end.TooLong = IfSome left (λ bytes. 2 ^ 29 < length bytes)
 IsLonger left end.NoMemory = ⊤

@@ -1,19 +1,17 @@
 //! The program: a sender of private set intersection over framed requests.
 #![tactic(auto)]
 
+mod answers;
 mod evaluation;
-#[cfg(test)]
-mod evaluation_tests;
-mod packing;
 mod planes;
-mod product;
 mod reading;
+#[cfg(test)]
+mod receiver_tests;
 mod requests;
 mod run;
 #[cfg(test)]
 mod run_tests;
 mod serve;
-mod set;
 mod status;
 #[cfg(test)]
 mod tests;

@@ -1,117 +1,128 @@
-//! The root plane of a bundle whose bins have one member at most: a polynomial of degree 1 a slot.
-ghost use Rattle.std.specs.Prelude.{◌≡◌, ℕ, ◌+◌, ◌-◌, ◌*◌, ◌%◌, ◌<◌, IfOk};
+//! The root plane of a bundle: the polynomial of each slot, and its coefficients packed over the slots.
+ghost use Rattle.std.specs.Prelude.{◌≡◌, ℕ, ◌+◌, ◌<◌, ◌≤◌, IfOk, length, map, slice_index};
+ghost use Rattle.std.specs.List.{All};
 ghost use Rattle.psi_residue.specs.Numbers.{plain_modulus, ring_degree};
 ghost use Rattle.psi_residue.specs.Polynomials.{IsPolynomial};
+ghost use Rattle.psi_residue.specs.RootPolynomials.{root_coefficient};
 ghost use Rattle.psi_residue.specs.Slots.{packed_list};
-ghost use Rattle.psi_bundle.specs.Bins.{roots_of};
-ghost use Rattle.item_slots.specs.Tags.{slot_value};
-ghost use Rattle.psi_bundle.specs.Planes.{root_coefficient, slot_coefficient, packed_plane};
-ghost use Rattle.psi_cli.specs.Evaluation.{plane_values};
+ghost use Rattle.bin_poly.specs.Roots.{HasRoots};
+ghost use Rattle.psi_bundle.specs.Bins.{bin_at, roots_of};
+ghost use Rattle.psi_bundle.specs.Planes.{one_coefficient};
+ghost use Rattle.psi_cli.specs.Evaluation.{AreWithin, IsRootPlane, IsSlotPolynomial, column};
 
-use crate::packing::pack;
-use item_slots::{Tag, slots};
-use psi_bundle::{Bundle, Member};
-use psi_residue::{N, T};
+use batching::pack;
+use bin_poly::from_roots;
+use psi_bundle::Bundle;
+use psi_residue::N;
 use std::alloc::{AllocError, Global};
 
-/// The coefficients of the powers 0 and 1 of a root plane, each packed over the slots.
-#[derive(Drop)]
-pub struct RootPlane {
-    /// Of the power 0.
-    pub constant: Vec<u32>,
-    /// Of the power 1.
-    pub linear: Vec<u32>,
-}
-
-/// The root plane of a bundle.
-pub fn root_plane(alloc: Global, bundle: &Bundle) -> Result<RootPlane, AllocError>
-    ensures constant { IfOk result (λ plane. plane.constant.items ≡ packed_plane bundle.now 0 0) }
-    ensures linear { IfOk result (λ plane. plane.linear.items ≡ packed_plane bundle.now 0 1) }
-    ensures first_plaintext { IfOk result (λ plane. IsPolynomial plain_modulus plane.constant.items) }
-    ensures second_plaintext { IfOk result (λ plane. IsPolynomial plain_modulus plane.linear.items) }
+/// The polynomials of all slots of a bundle's root plane: for each slot one coefficient for each power up to the
+/// capacity. No bin has more members than the capacity.
+pub fn root_plane(
+    alloc: Global,
+    bundle: &Bundle,
+    capacity: u16,
+) -> Result<Vec<Vec<u32>>, AllocError>
+    requires within { AreWithin capacity bundle.now }
+    ensures { IfOk result (λ plane. IsRootPlane capacity bundle.now (map (λ v. v.items) plane.items)) }
 {
-    let values = slot_values(alloc, bundle)?;
-    Ok(RootPlane {
-        constant: packed(alloc, &values.constant)?,
-        linear: packed(alloc, &values.linear)?,
-    })
+    let mut plane = Vec::with_capacity(alloc, N)?;
+    for slot in 0..N {
+        plane.push(slot_polynomial(alloc, bundle, capacity, slot as u16)?)?;
+    }
+    Ok(plane)
 }
 
-// The polynomial whose slots are the values.
-fn packed(alloc: Global, values: &[u32]) -> Result<Vec<u32>, AllocError>
-    requires { IsPolynomial plain_modulus values.now }
-    ensures packed { IfOk result (λ out. out.items ≡ packed_list values.now) }
+// The polynomial of a slot. The last one is the constant 1.
+fn slot_polynomial(
+    alloc: Global,
+    bundle: &Bundle,
+    capacity: u16,
+    slot: u16,
+) -> Result<Vec<u32>, AllocError>
+    requires in_range { slot < ring_degree }
+    requires within { AreWithin capacity bundle.now }
+    ensures { IfOk result (λ v. IsSlotPolynomial capacity bundle.now slot v.items) }
+{
+    if slot < 4095 {
+        roots_polynomial(alloc, bundle, capacity, slot / 5, (slot % 5) as u8)
+    } else {
+        one_polynomial(alloc, capacity)
+    }
+}
+
+// The constant 1.
+fn one_polynomial(alloc: Global, capacity: u16) -> Result<Vec<u32>, AllocError>
+    ensures size { IfOk result (λ v. length v.items ≡ capacity + 1) }
+    ensures coefficients { IfOk result (λ v. (k : ℕ) → slice_index v.items k ≡ one_coefficient k) }
+{
+    let mut coefficients = vec![in alloc; 0; usize::from(capacity) + 1]?;
+    coefficients[0] = 1;
+    Ok(coefficients)
+}
+
+// The product of x - a over the roots a of one part of a bin, and zeros behind it.
+fn roots_polynomial(
+    alloc: Global,
+    bundle: &Bundle,
+    capacity: u16,
+    bin: u16,
+    part: u8,
+) -> Result<Vec<u32>, AllocError>
+    requires in_range { bin < 819 }
+    requires a_part { part < 5 }
+    requires within { length (bin_at bundle.now bin) ≤ capacity }
+    ensures size { IfOk result (λ v. length v.items ≡ capacity + 1) }
+    ensures coefficients { IfOk result (λ v. (k : ℕ) → slice_index v.items k ≡ root_coefficient (roots_of (bin_at bundle.now bin) part) k) }
+{
+    let roots = roots_of_part(alloc, bundle, bin, part)?;
+    let mut coefficients = product(alloc, &roots)?;
+    coefficients.resize(usize::from(capacity) + 1, 0)?;
+    Ok(coefficients)
+}
+
+// The roots of one part of a bin.
+fn roots_of_part(alloc: Global, bundle: &Bundle, bin: u16, part: u8) -> Result<Vec<u16>, AllocError>
+    requires in_range { bin < 819 }
+    requires a_part { part < 5 }
+    ensures { IfOk result (λ v. v.items ≡ roots_of (bin_at bundle.now bin) part) }
+{
+    let mut roots = vec![in alloc; 0; bundle.members(bin).len()]?;
+    bundle.roots(bin, part, &mut roots);
+    Ok(roots)
+}
+
+// The product of x - a over the roots a.
+fn product(alloc: Global, roots: &[u16]) -> Result<Vec<u32>, AllocError>
+    ensures size { IfOk result (λ v. length v.items ≡ length roots.now + 1) }
+    ensures roots { IfOk result (λ v. HasRoots v.items roots.now) }
+{
+    let mut coefficients = vec![in alloc; 0; roots.len() + 1]?;
+    from_roots(roots, &mut coefficients);
+    Ok(coefficients)
+}
+
+/// The coefficients of one power over the slots of a plane, packed. Each slot's polynomial has that power.
+pub fn packed_power(alloc: Global, plane: &[Vec<u32>], power: usize) -> Result<Vec<u32>, AllocError>
+    requires reach { All (λ v. power < length v.items) plane.now }
+    requires values { IsPolynomial plain_modulus (column (map (λ v. v.items) plane.now) power) }
+    ensures packed { IfOk result (λ out. out.items ≡ packed_list (column (map (λ v. v.items) plane.now) power)) }
     ensures plaintext { IfOk result (λ out. IsPolynomial plain_modulus out.items) }
 {
+    let values = values_of(alloc, plane, power)?;
     let mut out = vec![in alloc; 0; N]?;
-    pack(values, &mut out);
+    pack(&values, &mut out);
     Ok(out)
 }
 
-// The coefficients of all slots, not packed.
-fn slot_values(alloc: Global, bundle: &Bundle) -> Result<RootPlane, AllocError>
-    ensures constant { IfOk result (λ plane. plane.constant.items ≡ plane_values bundle.now 0 ring_degree) }
-    ensures linear { IfOk result (λ plane. plane.linear.items ≡ plane_values bundle.now 1 ring_degree) }
+// The coefficients of one power, slot by slot.
+fn values_of(alloc: Global, plane: &[Vec<u32>], power: usize) -> Result<Vec<u32>, AllocError>
+    requires { All (λ v. power < length v.items) plane.now }
+    ensures { IfOk result (λ out. out.items ≡ column (map (λ v. v.items) plane.now) power) }
 {
-    let mut constant = Vec::with_capacity(alloc, N)?;
-    let mut linear = Vec::with_capacity(alloc, N)?;
-    for slot in 0..N {
-        let coefficients = slot_coefficients(bundle, slot as u16);
-        constant.push(coefficients.0)?;
-        linear.push(coefficients.1)?;
+    let mut values = Vec::with_capacity(alloc, plane.len())?;
+    for polynomial in plane {
+        values.push(polynomial[power])?;
     }
-    Ok(RootPlane { constant, linear })
-}
-
-// The coefficients of the powers 0 and 1 of a slot's polynomial.
-#[tactic(auto, unfolding(psi_bundle::specs::Planes::slot_coefficient))]
-fn slot_coefficients(bundle: &Bundle, slot: u16) -> (u32, u32)
-    requires { slot < ring_degree }
-    ensures constant { result.0 ≡ slot_coefficient bundle.now 0 slot 0 }
-    ensures linear { result.1 ≡ slot_coefficient bundle.now 0 slot 1 }
-{
-    if slot < 4095 {
-        low_coefficients(bundle.members(slot / 5), (slot % 5) as u8)
-    } else {
-        (1, 0)
-    }
-}
-
-// The coefficients of the powers 0 and 1 of the product of x - a over the members' slot values a of one part.
-fn low_coefficients(members: &[Member], part: u8) -> (u32, u32)
-    requires { part < 5 }
-    ensures constant { result.0 ≡ root_coefficient (roots_of members.now part) 0 }
-    ensures linear { result.1 ≡ root_coefficient (roots_of members.now part) 1 }
-    ensures first_below { result.0 < plain_modulus }
-    ensures second_below { result.1 < plain_modulus }
-{
-    match members {
-        [] => (1, 0),
-        [first, rest @ ..] => {
-            let others = low_coefficients(rest, part);
-            with_root(slot(&first.tag, part), others)
-        }
-    }
-}
-
-// The slot value of one part of a tag.
-fn slot(tag: &Tag, part: u8) -> u16
-    requires { part < 5 }
-    ensures { result ≡ slot_value tag.now part }
-{
-    slots(tag)[part as usize]
-}
-
-// The two coefficients with one more root.
-fn with_root(root: u16, others: (u32, u32)) -> (u32, u32)
-    requires first_below { others.0 < plain_modulus }
-    requires second_below { others.1 < plain_modulus }
-    ensures constant { result.0 ≡ (plain_modulus - root) * others.0 % plain_modulus }
-    ensures linear { result.1 ≡ (others.0 + (plain_modulus - root) * others.1) % plain_modulus }
-    ensures both_below { (result.0 < plain_modulus) × (result.1 < plain_modulus) }
-{
-    let factor = T - root as u64;
-    let constant = factor * others.0 as u64 % T;
-    let linear = (others.0 as u64 + factor * others.1 as u64) % T;
-    (constant as u32, linear as u32)
+    Ok(values)
 }

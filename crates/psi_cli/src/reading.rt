@@ -5,8 +5,8 @@ ghost use Rattle.psi_cli.specs.Reading.{HasReadCause, IsLonger, IsReadCounted};
 use psi_outside::{Failed, Source};
 use std::alloc::{AllocError, Global};
 
-/// The most bytes that are read: 4 MiB.
-pub const LIMIT: usize = 4194304;
+/// The most bytes that are read: 512 MiB, which is more than one round can have.
+pub const LIMIT: usize = 536870912;
 
 // The bytes that one read has room for.
 const PIECE: usize = 8192;
@@ -42,14 +42,14 @@ impl From<AllocError> for ReadEnd {
     }
 }
 
-/// All bytes that a source has left, at most `LIMIT`, which is 2^22.
+/// All bytes that a source has left, at most `LIMIT`, which is 2^29.
 ///
 /// `TooLong` comes for more bytes than these, and then some of them are left. The source's count of faults rises
 /// where the answer is `Failed`, and stays as it was at every other answer.
 pub fn read_all<S: Source>(alloc: Global, source: &mut S) -> Result<Vec<u8>, ReadEnd>
     ensures bytes { IfOk result (λ bytes. IfSome (S.left source.old) (λ left. bytes.items ≡ left)) }
     ensures end { OnOk result (IfSome (S.left source.old) (λ _. S.left source.new ≡ Some [])) }
-    ensures bound { IfOk result (λ bytes. length bytes.items ≤ 2 ^ 22) }
+    ensures bound { IfOk result (λ bytes. length bytes.items ≤ 2 ^ 29) }
     ensures longer { IfErr result (IsLonger (S.left source.old)) }
     ensures cause { HasReadCause (S.faults source.old) (S.faults source.new) result }
 {
@@ -66,9 +66,9 @@ pub fn read_all<S: Source>(alloc: Global, source: &mut S) -> Result<Vec<u8>, Rea
 
 // Puts a piece behind the bytes, unless they would be more than the limit.
 fn append(bytes: &mut Vec<u8>, piece: &[u8]) -> Result<(), ReadEnd>
-    requires { length bytes.old.items ≤ 2 ^ 22 }
+    requires { length bytes.old.items ≤ 2 ^ 29 }
     ensures all { OnOk result (bytes.new.items ≡ bytes.old.items ++ piece.now) }
-    ensures bound { OnOk result (length bytes.new.items ≤ 2 ^ 22) }
+    ensures bound { OnOk result (length bytes.new.items ≤ 2 ^ 29) }
     ensures limit { IfErr result (IsLonger (Some (bytes.old.items ++ piece.now))) }
     ensures no_fault { IfErr result (IsReadCounted 0 0) }
 {

@@ -47,29 +47,18 @@ fn outcome<R: Threads + Wait + Sync>(
 #[test]
 fn runs_end_with_their_status(rt: HostRuntime) -> Result<(), Fail> {
     // The words, the input, the most bytes of a read, the reads and the writes that fail; the status and the text.
-    let rows: [(&[&str], &[u8], usize, &[u64], &[u64], u8, &[u8]); 9] = [
-        (SERVE, b"", 8, &[], &[], 0, b""),
+    let rows: [(&[&str], &[u8], usize, &[u64], &[u64], u8, &[u8]); 6] = [
         (SERVE, PUT, 4, &[], &[], 0, ADDED),
         (SERVE, PUT, 4, &[1], &[], 5, b""),
-        (SERVE, PUT, 4, &[], &[0], 6, b""),
         (SERVE, PUT, 4, &[], &[1], 6, ADDED),
-        (SERVE, b"", 4, &[], &[0], 6, b""),
+        (SERVE, b"\x00\x00\x00", 4, &[], &[], 4, b""),
         (
-            SERVE,
-            b"\x00\x00\x00\x0b\x02\x00\x01\x00\x00\x00\x01\x03abc",
+            &["serve", "1", "2245", "0", "1", "0"],
+            PUT,
             4,
-            &[],
-            &[],
-            4,
-            b"",
-        ),
-        (
-            SERVE,
-            b"\x00\x00\x00\x0b\x01\x00\x01\x00\x00\x00\x01\x03abc\x00\x00\x00",
-            4,
-            &[],
-            &[],
-            4,
+            &[0],
+            &[0],
+            3,
             b"",
         ),
         (&["serve", "1", "1", "0"], PUT, 4, &[0], &[0], 2, b""),

@@ -9,6 +9,8 @@ pub enum Status {
     Done,
     /// The words give no command.
     Words,
+    /// The parameters are refused.
+    Parameters,
     /// The input is none of the command.
     BadInput,
     /// The source failed.
@@ -27,6 +29,7 @@ impl Status {
         match self {
             Status::Done => 0,
             Status::Words => 2,
+            Status::Parameters => 3,
             Status::BadInput => 4,
             Status::ReadFault => 5,
             Status::WriteFault => 6,

@@ -1,2 +1,3 @@
 pub mod WholeFrames
+pub mod RoundLaws
 pub mod Spelled

@@ -1,5 +1,5 @@
 -- What the test for a whole frame tells, and why no other frames spell an input.
-use Rattle.std.proofs.Common.{◌≡◌, ◌⊎◌, inl, inr, ℕ, ◌+◌, ◌<◌, Bool, true, false, ◌&&◌, ◌||◌, nat_eq, List, [], ◌∷◌, ◌++◌, length, drop, slice_index, refl, sym, ap, ◌∙◌, arith, append_assoc}
+use Rattle.std.proofs.Common.{◌≡◌, ◌⊎◌, inl, inr, ℕ, ◌+◌, ◌<◌, Bool, true, false, ◌&&◌, ◌||◌, List, [], ◌∷◌, ◌++◌, length, drop, slice_index, refl, sym, ap, ◌∙◌, arith, append_assoc}
 use Rattle.std.proofs.lemmas.Bool.{leb-true, le-leb, eqb-true}
 use Rattle.std.proofs.lemmas.List.Elements.{All-head, All-weaker, All-same, All-drop}
 use Rattle.std.proofs.lemmas.List.{append-nil}
@@ -9,8 +9,8 @@ use Rattle.std.specs.Cmp.Derive.{both_true}
 use Rattle.std.specs.List.{All}
 use Rattle.byteorder.specs.Endian.{big_number}
 use Rattle.psi_frames.specs.declared.frame.Frame.{Frame}
-use Rattle.psi_frames.specs.Frames.{IsSpellable, frame_bytes, frames_bytes, head_bytes, greatest_length, go_kind, put_kind, ask_kind, is_request_kind}
-use Rattle.psi_frames.specs.Inputs.{IsFirstFrame, AreFrames, begins_frame}
+use Rattle.psi_frames.specs.Frames.{IsSpellable, frame_bytes, frames_bytes, head_bytes, greatest_length, go_kind, put_kind, drop_kind, ask_kind, is_request_kind}
+use Rattle.psi_frames.specs.Inputs.{IsPlainFrame, IsPlainKind, is_plain_kind, AreFrames, begins_frame}
 use Rattle.psi_frames.specs.FrameLaws.{front_frame, behind_front, front_frame-frame, frame-front_frame, IsSpellable-front_frame, big_number-frame, length-frame_append, same_front, same_frames}
 
 both : (a b : Bool) → (a && b) ≡ true → (a ≡ true) × (b ≡ true)
@@ -21,26 +21,35 @@ either : (a b : Bool) → (a || b) ≡ true → (a ≡ true) ⊎ (b ≡ true)
 either true b e = inl refl
 either false b e = inr e
 
-left_true : (a b : Bool) → a ≡ true → (a || b) ≡ true
-left_true true b e = refl
-left_true false b e = absurd (cc)
-
-right_true : (a b : Bool) → b ≡ true → (a || b) ≡ true
-right_true true b e = refl
-right_true false b e = e
-
--- a kind of the first program is one of the table, and not that of a Go frame
-request_kind : (k : ℕ) → (k ≡ put_kind) ⊎ (k ≡ ask_kind) → is_request_kind k ≡ true
+-- a kind of Put, Drop or Ask is one of the table, and not that of a Go frame
+request_kind : (k : ℕ) → IsPlainKind k → is_request_kind k ≡ true
 request_kind k (inl e) = ap is_request_kind e
-request_kind k (inr e) = ap is_request_kind e
+request_kind k (inr (inl e)) = ap is_request_kind e
+request_kind k (inr (inr e)) = ap is_request_kind e
 
-not_go : (k : ℕ) → (k ≡ put_kind) ⊎ (k ≡ ask_kind) → k ≡ go_kind → ⊥
+not_go : (k : ℕ) → IsPlainKind k → k ≡ go_kind → ⊥
 not_go k (inl e) go = omega arith
-not_go k (inr e) go = omega arith
+not_go k (inr (inl e)) go = omega arith
+not_go k (inr (inr e)) go = omega arith
+
+-- the test of a kind, both ways
+plain_kind : (k : ℕ) → is_plain_kind k ≡ true → IsPlainKind k
+plain_kind k test = elim (either _ _ test) [
+  | inl put ↦ inl (eqb-true k put_kind put)
+  | inr other ↦ elim (either _ _ other) [
+    | inl drop ↦ inr (inl (eqb-true k drop_kind drop))
+    | inr ask ↦ inr (inr (eqb-true k ask_kind ask))
+  ]
+]
+
+is_plain-kind : (k : ℕ) → IsPlainKind k → is_plain_kind k ≡ true
+is_plain-kind k (inl e) = ap is_plain_kind e
+is_plain-kind k (inr (inl e)) = ap is_plain_kind e
+is_plain-kind k (inr (inr e)) = ap is_plain_kind e
 
 -- the test tells that the bytes are a frame and what stands behind it
 pub begins_frame-tells : (bytes : List ℕ) → ((i : ℕ) → slice_index bytes i < 256) → begins_frame bytes ≡ true
-    → IsFirstFrame (front_frame bytes) × (bytes ≡ frame_bytes (front_frame bytes) ++ behind_front bytes)
+    → IsPlainFrame (front_frame bytes) × (bytes ≡ frame_bytes (front_frame bytes) ++ behind_front bytes)
 unfolding front_frame
 begins_frame-tells bytes each test =
     let n = big_number 4 bytes in
@@ -52,10 +61,7 @@ begins_frame-tells bytes each test =
     let least = leb-true head_bytes n range.0 in
     let most = leb-true n greatest_length range.1 in
     let whole = leb-true (4 + n) (length bytes) third.0 in
-    let kind : (slice_index bytes 4 ≡ put_kind) ⊎ (slice_index bytes 4 ≡ ask_kind) = elim (either _ _ third.1) [
-      | inl put ↦ inl (eqb-true (slice_index bytes 4) put_kind put)
-      | inr ask ↦ inr (eqb-true (slice_index bytes 4) ask_kind ask)
-    ] in (
+    let kind = plain_kind (slice_index bytes 4) third.1 in (
       record {
         frame = record {
           spellable = IsSpellable-front_frame bytes least most whole each;
@@ -68,7 +74,7 @@ begins_frame-tells bytes each test =
     )
 
 -- the test holds of a frame and what stands behind it
-pub begins_frame-frame : (f : Frame) (x : List ℕ) → IsFirstFrame f → begins_frame (frame_bytes f ++ x) ≡ true
+pub begins_frame-frame : (f : Frame) (x : List ℕ) → IsPlainFrame f → begins_frame (frame_bytes f ++ x) ≡ true
 unfolding front_frame
 begins_frame-frame f x first =
     let s = first.frame.spellable in
@@ -78,35 +84,32 @@ begins_frame-frame f x first =
     let size = length-frame_append f x in
     let bound = s.length in
     let same : slice_index bytes 4 ≡ f.kind = ap (λ (g : Frame). g.kind) (front_frame-frame f x s) in
-    let kind : (nat_eq (slice_index bytes 4) put_kind || nat_eq (slice_index bytes 4) ask_kind) ≡ true = elim first.kind [
-      | inl put ↦ ap (λ (k : ℕ). nat_eq k put_kind || nat_eq k ask_kind) (same ∙ put)
-      | inr ask ↦ ap (λ (k : ℕ). nat_eq k put_kind || nat_eq k ask_kind) (same ∙ ask)
-    ] in
+    let kind : is_plain_kind (slice_index bytes 4) ≡ true = ap is_plain_kind same ∙ is_plain-kind f.kind first.kind in
     both_true (le-leb 11 (length bytes) (omega arith))
     (both_true (both_true (le-leb head_bytes n (omega arith)) (le-leb n greatest_length (omega arith)))
     (both_true (le-leb (4 + n) (length bytes) (omega arith)) kind))
 
 -- frames of an input have fields in their ranges
-spellable : (fs : List Frame) → All IsFirstFrame fs → All IsSpellable fs
-spellable fs each = All-weaker IsFirstFrame IsSpellable (λ f first. first.frame.spellable) fs each
+spellable : (fs : List Frame) → All IsPlainFrame fs → All IsSpellable fs
+spellable fs each = All-weaker IsPlainFrame IsSpellable (λ f first. first.frame.spellable) fs each
 
 -- an input is one list of frames at most
 pub same_input : (bytes : List ℕ) (fs gs : List Frame) → AreFrames bytes fs → AreFrames bytes gs → fs ≡ gs
 same_input bytes fs gs f g = same_frames fs gs (spellable fs f.each) (spellable gs g.each) (sym f.whole ∙ g.whole)
 
 -- the frames behind some are such frames too
-each_behind : (vs gs fs : List Frame) → fs ≡ vs ++ gs → All IsFirstFrame fs → All IsFirstFrame gs
+each_behind : (vs gs fs : List Frame) → fs ≡ vs ++ gs → All IsPlainFrame fs → All IsPlainFrame gs
 each_behind vs gs fs e each =
-    All-same IsFirstFrame gs (drop (length vs) fs) (sym (ap (drop (length vs)) e ∙ drop-append_seam vs gs)) (All-drop IsFirstFrame (length vs) fs each)
+    All-same IsPlainFrame gs (drop (length vs) fs) (sym (ap (drop (length vs)) e ∙ drop-append_seam vs gs)) (All-drop IsPlainFrame (length vs) fs each)
 
 -- where something that begins no frame stands behind some frames, no frames spell the whole
-begins_none : (rest : List ℕ) (gs : List Frame) → 0 < length rest → rest ≡ frames_bytes gs → All IsFirstFrame gs
-    → ((f : Frame) (x : List ℕ) → IsFirstFrame f → rest ≡ frame_bytes f ++ x → ⊥) → ⊥
+begins_none : (rest : List ℕ) (gs : List Frame) → 0 < length rest → rest ≡ frames_bytes gs → All IsPlainFrame gs
+    → ((f : Frame) (x : List ℕ) → IsPlainFrame f → rest ≡ frame_bytes f ++ x → ⊥) → ⊥
 begins_none rest [] some e each none = omega (arith, ap length e)
-begins_none rest (g ∷ gs) some e each none = none g (frames_bytes gs) (All-head IsFirstFrame g gs each) e
+begins_none rest (g ∷ gs) some e each none = none g (frames_bytes gs) (All-head IsPlainFrame g gs each) e
 
-pub no_input : (bytes rest : List ℕ) (vs fs : List Frame) → bytes ≡ frames_bytes vs ++ rest → All IsFirstFrame vs → 0 < length rest
-    → ((f : Frame) (x : List ℕ) → IsFirstFrame f → rest ≡ frame_bytes f ++ x → ⊥) → AreFrames bytes fs → ⊥
+pub no_input : (bytes rest : List ℕ) (vs fs : List Frame) → bytes ≡ frames_bytes vs ++ rest → All IsPlainFrame vs → 0 < length rest
+    → ((f : Frame) (x : List ℕ) → IsPlainFrame f → rest ≡ frame_bytes f ++ x → ⊥) → AreFrames bytes fs → ⊥
 no_input bytes rest vs fs whole each some none is =
     let front = same_front vs fs rest (spellable vs each) (spellable fs is.each) (sym whole ∙ is.whole) in
     begins_none rest front.0 some front.2 (each_behind vs front.0 fs front.1 is.each) none

@@ -1,17 +1,16 @@
 -- Laws of frames as bytes: reading a frame undoes writing it, so no bytes are two lists of frames.
-use Rattle.std.proofs.Common.{◌≡◌, ℕ, zero, suc, ◌+◌, ◌-◌, ◌*◌, ◌/◌, ◌%◌, ◌^◌, ◌<◌, ◌≤◌, Bool, true, false, nat_eq, List, [], ◌∷◌, ◌++◌, length, take, drop, slice_index, refl, sym, ap, ◌∙◌, arith, append_assoc, length-append, length-drop, if◌then◌else◌}
+use Rattle.std.proofs.Common.{◌≡◌, ℕ, zero, suc, ◌+◌, ◌-◌, ◌*◌, ◌/◌, ◌%◌, ◌^◌, ◌<◌, ◌≤◌, List, [], ◌∷◌, ◌++◌, length, take, drop, slice_index, refl, sym, ap, ◌∙◌, arith, append_assoc, length-append, length-drop}
 use Rattle.std.proofs.Math.Nat.{mod-eq_of_lt, mul-add-mod_self_right, mul-add-div_right, div-eq_of_lt, div-one, one-le-pow}
 use Rattle.std.proofs.Math.Seq.{drop-append_seam, take-append_seam}
 use Rattle.std.proofs.lemmas.List.{take-append-drop, drop-drop, length-take-le, get_or-drop, append-nil}
 use Rattle.std.proofs.lemmas.Nat.{pow-add}
-use Rattle.std.proofs.lemmas.List.Sums.{sum_by-cons}
 use Rattle.std.proofs.lemmas.List.Elements.{All-head, All-tail, All-take, All-drop, All-from_get_or}
 use Rattle.std.specs.Int.{byte_at, bytes_high_first}
-use Rattle.std.specs.List.{All, count_by}
+use Rattle.std.specs.List.{All}
 use Rattle.byteorder.specs.Endian.{big_from, big_number, big_bytes}
 use Rattle.byteorder.specs.Numbers.{big_from-cons, big_from-lt, big_number-reads_back}
 use Rattle.psi_frames.specs.declared.frame.Frame.{Frame}
-use Rattle.psi_frames.specs.Frames.{spelled, frame_bytes, frames_bytes, IsSpellable, head_bytes, greatest_length, ask_kind}
+use Rattle.psi_frames.specs.Frames.{spelled, frame_bytes, frames_bytes, IsSpellable, head_bytes, greatest_length}
 
 -- a byte of a number, by its place
 byte_at-pow : (k x : ℕ) → byte_at k x ≡ x / 256 ^ k % 256
@@ -196,28 +195,3 @@ same_frames fs gs each_f each_g e =
     let front = same_front fs gs [] each_f each_g (append-nil (frames_bytes fs) ∙ e) in
     let none = no_frames front.0 (sym front.2) in
     sym (front.1 ∙ ap (λ (hs : List Frame). fs ++ hs) none ∙ append-nil fs)
-
--- the greatest body of a query, and of any other frame of a first program
-abbrev pub body_limit : Frame → ℕ
-body_limit f = if nat_eq f.kind ask_kind then 81928 else 256
-
--- the bytes of a frame with such a body
-length-frame_by : (asks : Bool) (n : ℕ) → n ≤ (if asks then 81928 else 256) → 11 + n ≤ 267 + 81672 * (if asks then 1 else 0)
-length-frame_by true n h = omega arith
-length-frame_by false n h = omega arith
-
--- the length of a text grows by eleven bytes and the body with each frame
-length-frames_by : (fs : List Frame) → All (λ f. length f.body ≤ body_limit f) fs
-    → length (frames_bytes fs) ≤ 267 * length fs + 81672 * count_by (λ f. nat_eq f.kind ask_kind) fs
-length-frames_by [] each = omega arith
-length-frames_by (f ∷ fs) each =
-    let before = length-frames_by fs (All-tail (λ (f : Frame). length f.body ≤ body_limit f) f fs each) in
-    let here = length-frame_by (nat_eq f.kind ask_kind) (length f.body) (All-head (λ (f : Frame). length f.body ≤ body_limit f) f fs each) in
-    let count = sum_by-cons (λ (f : Frame). if nat_eq f.kind ask_kind then 1 else 0) f fs in
-    let size = length-frame_append f (frames_bytes fs) in
-    omega (arith, before, here, count, size)
-
--- at most 4096 frames, of which at most 32 ask, are a text of fewer than 2^22 bytes
-pub length-frames : (fs : List Frame) → All (λ f. length f.body ≤ body_limit f) fs → length fs ≤ 4096 → count_by (λ f. nat_eq f.kind ask_kind) fs ≤ 32
-    → length (frames_bytes fs) < 2 ^ 22
-length-frames fs each few asks = omega (arith, length-frames_by fs each)

@@ -1,13 +1,11 @@
--- The one-thread sender's replies to one round of Puts and Asks without a code serve that round, and are of one lane.
-use Rattle.std.specs.Prelude.{◌≡◌, ◌⊎◌, ℕ, zero, suc, ◌+◌, ◌-◌, ◌^◌, ◌<◌, ◌≤◌, min, Bool, true, false, nat_eq, nat_lt, nat_le, is_some, ◌||◌, List, [], ◌∷◌, length, map, take, Option, Some, None, IsSome, slice_get, slice_index_or, if◌then◌else◌}
-use Rattle.std.specs.List.{All, AllPairs, AllByRecursion, range_with_len, list_any}
+-- The one-thread sender's replies to one round of Puts, Drops and Asks without a code serve that round, and are of one lane.
+use Rattle.std.specs.Prelude.{◌≡◌, ℕ, zero, suc, ◌+◌, ◌-◌, ◌<◌, ◌≤◌, min, Bool, true, false, nat_eq, nat_lt, nat_le, is_some, List, [], ◌∷◌, length, map, Option, Some, None, IsSome, slice_get, slice_index_or, if◌then◌else◌}
+use Rattle.std.specs.List.{All, AllPairs, AllByRecursion, range_with_len}
 use Rattle.std.specs.List.Sorted.{IsPermutation}
 use Rattle.std.proofs.Common.{refl, sym, ap, ◌∙◌, subst, arith, inl, inr, append-nil}
-use Rattle.std.proofs.lemmas.List.{length-map, length-take-le}
-use Rattle.std.proofs.lemmas.List.Folds.{length-flat_map-take}
+use Rattle.std.proofs.lemmas.List.{length-map}
 use Rattle.std.proofs.lemmas.List.Elements.{All-nil, All-cons}
 use Rattle.std.proofs.lemmas.List.Sorted.{IsPermutation-refl}
-use Rattle.std.proofs.lemmas.Bool.{lt-leb}
 use Rattle.psi_residue.specs.Parameters.{Parameters}
 use Rattle.psi_bundle.specs.declared.history.Call.{Call}
 use Rattle.psi_bundle.specs.declared.history.Call.TheVariants as call
@@ -20,15 +18,16 @@ use Rattle.psi_bundle.specs.Steps.{Step, step, replace, add, remove, repack, nex
 use Rattle.psi_bundle.specs.Histories.{IsLegal, version_at}
 use Rattle.psi_bundle.specs.Bodies.{reply_body}
 use Rattle.psi_frames.specs.declared.frame.Frame.{Frame}
-use Rattle.psi_frames.specs.Frames.{put_kind, ask_kind, repack_kind, frame_bytes, frames_bytes}
+use Rattle.psi_frames.specs.Frames.{ask_kind, repack_kind}
+use Rattle.psi_frames.specs.Inputs.{IsPlainKind, IsOneRoundAtMost}
 use Rattle.psi_frames.specs.Requests.{call_of}
-use Rattle.psi_frames.specs.Rounds.{Request, is_go, requests_from, requests_of, is_full, IsRound, AreRounds}
+use Rattle.psi_frames.specs.Rounds.{Request, is_go, requests_from, requests_of, IsRound, AreRounds}
 use Rattle.psi_frames.specs.Served.{Exchange, exchanges, place_of, from_of, refusal_of, body_of, answer_of, from_or_zero, entry_of, address_of_reply, address_of_request, places_in, places_of_round, first_place, uncoded_of_round, PlacesRise, StaysFull, SameSession, SeesOwn, IsRecorded, IsEvaluated, IsSince, IsRefusedByCode, IsServed, IsOneLane, IsOneLaneText, text_of, journal_limit}
 use Rattle.psi_frames.specs.OneLane.{reply_of, lane_next, lane_reply, lane_sent, lane_replies, lane_history}
 
--- a Put or an Ask
-abbrev pub IsPutOrAsk : Frame → Type 0
-IsPutOrAsk f = (f.kind ≡ put_kind) ⊎ (f.kind ≡ ask_kind)
+-- a Put, a Drop or an Ask
+abbrev pub IsPlain : Frame → Type 0
+IsPlain f = IsPlainKind f.kind
 
 -- of two steps to one count, either way
 one_count : (b : Bool) (x y : Step) (n : ℕ) → x.version.count ≡ n → y.version.count ≡ n → (if b then x else y).version.count ≡ n
@@ -104,10 +103,10 @@ body-reply answer.Seen n body told e = cc
 body-reply (answer.Done x y) n body told e = cc
 body-reply (answer.Moved x) n body told e = cc
 
--- the call of a Put or an Ask does not go by a `from`
-same_call : (f : Frame) → IsPutOrAsk f → (x y : ℕ) → call_of f x ≡ call_of f y
+-- the call of a Put, a Drop or an Ask does not go by a `from`
+same_call : (f : Frame) → IsPlain f → (x y : ℕ) → call_of f x ≡ call_of f y
 unfolding call_of
-same_call f h x y = elim h [ inl e ↦ rw e refl | inr e ↦ rw e refl ]
+same_call f h x y = elim h [ inl e ↦ rw e refl | inr other ↦ elim other [ inl e ↦ rw e refl | inr e ↦ rw e refl ] ]
 
 -- the exchanges of the one-thread sender, by the requests
 abbrev pub lane : Parameters → Version → List Request → List Exchange
@@ -150,7 +149,7 @@ from-lane p v (r ∷ rs) (suc k) d from h e =
     from-lane p (lane_next v r.frame) rs k d from (omega arith) e ∙ (omega (arith, count-step v (call_of r.frame v.count)))
 
 -- the entry at place k is that of exchange k
-recorded-lane : (p : Parameters) (v : Version) (rs : List Request) (k : ℕ) (d : Exchange) (a : Answer) → AllByRecursion (λ r. IsPutOrAsk r.frame) rs → k < length rs
+recorded-lane : (p : Parameters) (v : Version) (rs : List Request) (k : ℕ) (d : Exchange) (a : Answer) → AllByRecursion (λ r. IsPlain r.frame) rs → k < length rs
     → answer_of (slice_index_or (lane p v rs) k d).sent.reply ≡ Some a → slice_get (lane_history v (frames_of rs)) k ≡ Some (entry_of (slice_index_or (lane p v rs) k d) a)
 unfolding lane_history
 recorded-lane p v [] k d a plain h e = absurd (omega arith)
@@ -201,26 +200,26 @@ unfolding lane_replies
 addresses p v [] = refl
 addresses p v (r ∷ rs) = ap (λ (xs : List (ℕ × ℕ)). address_of_request r ∷ xs) (addresses p (lane_next v r.frame) rs)
 
--- a Put or an Ask is no Go
-no_go : (f : Frame) → IsPutOrAsk f → is_go f ≡ false
-no_go f h = elim h [ inl e ↦ rw e refl | inr e ↦ rw e refl ]
+-- a Put, a Drop or an Ask is no Go
+no_go : (f : Frame) → IsPlain f → is_go f ≡ false
+no_go f h = elim h [ inl e ↦ rw e refl | inr other ↦ elim other [ inl e ↦ rw e refl | inr e ↦ rw e refl ] ]
 
--- the requests of Puts and Asks are their frames, all in one round
-frames-requests : (p : Parameters) (round asks : ℕ) (fs : List Frame) → AllByRecursion IsPutOrAsk fs → frames_of (requests_from p round asks fs) ≡ fs
+-- the requests of such frames are their frames, all in one round
+frames-requests : (p : Parameters) (round asks : ℕ) (fs : List Frame) → AllByRecursion IsPlain fs → frames_of (requests_from p round asks fs) ≡ fs
 unfolding requests_from
 frames-requests p round asks [] h = refl
 frames-requests p round asks (f ∷ fs) h =
     let e : is_go f ≡ false = no_go f h.0 in
     rw e (ap (λ (gs : List Frame). f ∷ gs) (frames-requests p round (if nat_eq f.kind ask_kind then asks + 1 else asks) fs h.1))
 
-rounds-requests : (p : Parameters) (round asks : ℕ) (fs : List Frame) → AllByRecursion IsPutOrAsk fs → AllByRecursion (λ r. r.round ≡ round) (requests_from p round asks fs)
+rounds-requests : (p : Parameters) (round asks : ℕ) (fs : List Frame) → AllByRecursion IsPlain fs → AllByRecursion (λ r. r.round ≡ round) (requests_from p round asks fs)
 unfolding requests_from
 rounds-requests p round asks [] h = tt
 rounds-requests p round asks (f ∷ fs) h =
     let e : is_go f ≡ false = no_go f h.0 in
     rw e (refl, rounds-requests p round (if nat_eq f.kind ask_kind then asks + 1 else asks) fs h.1)
 
-plain-requests : (p : Parameters) (round asks : ℕ) (fs : List Frame) → AllByRecursion IsPutOrAsk fs → AllByRecursion (λ r. IsPutOrAsk r.frame) (requests_from p round asks fs)
+plain-requests : (p : Parameters) (round asks : ℕ) (fs : List Frame) → AllByRecursion IsPlain fs → AllByRecursion (λ r. IsPlain r.frame) (requests_from p round asks fs)
 unfolding requests_from
 plain-requests p round asks [] h = tt
 plain-requests p round asks (f ∷ fs) h =
@@ -241,25 +240,25 @@ first_round : (fs : List Frame) (k : ℕ) → k < length (one_round fs) → k �
 first_round [] k h = omega arith
 first_round (f ∷ fs) k h = omega arith
 
--- Puts and Asks without a code, few enough for one round
+-- Puts, Drops and Asks without a code, at most one round of them
 pub record IsOneRound (p : Parameters) (fs : List Frame) : Type 0 where
-  pub plain : AllByRecursion IsPutOrAsk fs
+  pub plain : AllByRecursion IsPlain fs
   pub uncoded : AllByRecursion (λ r. r.code ≡ 0) (requests_from p 0 0 fs)
   pub few : length fs ≤ 4096
-  pub small : length (frames_bytes fs) < 2 ^ 28
+  pub round : IsOneRoundAtMost fs
 
 code-lane : (p : Parameters) (v : Version) (rs : List Request) (k : ℕ) (d : Exchange) → AllByRecursion (λ r. r.code ≡ 0) rs → k < length rs → (slice_index_or (lane p v rs) k d).request.code ≡ 0
 code-lane p v [] k d z h = absurd (omega arith)
 code-lane p v (r ∷ rs) zero d z h = z.0
 code-lane p v (r ∷ rs) (suc k) d z h = code-lane p (lane_next v r.frame) rs k d z.1 (omega arith)
 
-put_or_ask-lane : (p : Parameters) (v : Version) (rs : List Request) (k : ℕ) (d : Exchange) → AllByRecursion (λ r. IsPutOrAsk r.frame) rs → k < length rs → IsPutOrAsk (slice_index_or (lane p v rs) k d).request.frame
-put_or_ask-lane p v [] k d z h = absurd (omega arith)
-put_or_ask-lane p v (r ∷ rs) zero d z h = z.0
-put_or_ask-lane p v (r ∷ rs) (suc k) d z h = put_or_ask-lane p (lane_next v r.frame) rs k d z.1 (omega arith)
+plain-lane : (p : Parameters) (v : Version) (rs : List Request) (k : ℕ) (d : Exchange) → AllByRecursion (λ r. IsPlain r.frame) rs → k < length rs → IsPlain (slice_index_or (lane p v rs) k d).request.frame
+plain-lane p v [] k d z h = absurd (omega arith)
+plain-lane p v (r ∷ rs) zero d z h = z.0
+plain-lane p v (r ∷ rs) (suc k) d z h = plain-lane p (lane_next v r.frame) rs k d z.1 (omega arith)
 
-no_repack : (f : Frame) → IsPutOrAsk f → f.kind ≡ repack_kind → ⊥
-no_repack f h e = elim h [ inl x ↦ omega arith | inr x ↦ omega arith ]
+no_repack : (f : Frame) → IsPlain f → f.kind ≡ repack_kind → ⊥
+no_repack f h e = elim h [ inl x ↦ omega arith | inr other ↦ elim other [ inl x ↦ omega arith | inr x ↦ omega arith ] ]
 
 some_from : {X : Type 0} (o : Option X) (x : X) → o ≡ Some x → IsSome o
 some_from o x e = rw e refl
@@ -304,10 +303,10 @@ module _ (p : Parameters) (v : Version) (rs : List Request) where
       let at = within k h in
       place-lane p v rs k d at ∙ ap Some (sym (from-lane p v rs k d from at e))
 
-  since-lane : (given : List Entry) (es : List Exchange) → AllByRecursion (λ r. IsPutOrAsk r.frame) rs → All (IsSince given es) (lane p v rs)
-  since-lane given es plain k d h e place has = absurd (no_repack (slice_index_or (lane p v rs) k d).request.frame (put_or_ask-lane p v rs k d plain (within k h)) e)
+  since-lane : (given : List Entry) (es : List Exchange) → AllByRecursion (λ r. IsPlain r.frame) rs → All (IsSince given es) (lane p v rs)
+  since-lane given es plain k d h e place has = absurd (no_repack (slice_index_or (lane p v rs) k d).request.frame (plain-lane p v rs k d plain (within k h)) e)
 
-  recorded-all : v.count ≡ 0 → AllByRecursion (λ r. IsPutOrAsk r.frame) rs → All (IsRecorded (lane_history v (frames_of rs))) (lane p v rs)
+  recorded-all : v.count ≡ 0 → AllByRecursion (λ r. IsPlain r.frame) rs → All (IsRecorded (lane_history v (frames_of rs))) (lane p v rs)
   recorded-all zero_count plain k d h place a ep ea =
       let at = within k h in
       let here : Some place ≡ Some (v.count + k) = sym ep ∙ place-lane p v rs k d at in
@@ -333,27 +332,12 @@ fits_in first number n e m few = omega arith
 permuted : (places : List ℕ) (first number n : ℕ) → places ≡ range_with_len 0 n → first ≡ 0 → number ≡ n → IsPermutation places (range_with_len first number)
 permuted places first number n e f k = rw (e, f, k) (IsPermutation-refl _)
 
-no_go_among : (fs : List Frame) (k : ℕ) → AllByRecursion IsPutOrAsk fs → list_any is_go (take k fs) ≡ false
-no_go_among fs zero h = refl
-no_go_among [] (suc k) h = refl
-no_go_among (f ∷ fs) (suc k) h = let e : is_go f ≡ false = no_go f h.0 in rw e (no_go_among fs k h.1)
-
-none_full : (a b c : Bool) → a ≡ false → b ≡ false → c ≡ false → a || (b || c) ≡ false
-none_full a b c x y z = rw (x, y, z) refl
-
--- Puts and Asks, few enough, have no full front
-front_is_short : (fs : List Frame) (k : ℕ) (d : Frame) → AllByRecursion IsPutOrAsk fs → length fs ≤ 4096 → length (frames_bytes fs) < 2 ^ 28 → k < length fs → is_full (take k fs) ≡ false
-unfolding is_full
-front_is_short fs k d plain few small lt =
-    let cut : length (take k fs) ≡ k = length-take-le k fs (omega arith) in
-    let size = length-flat_map-take frame_bytes fs k d lt in
-    none_full _ _ _ (no_go_among fs k plain) (lt-leb 4096 (length (take k fs)) (omega arith)) (lt-leb (2 ^ 28) (length (frames_bytes (take k fs))) (omega (arith, size)))
-
-rounds-fs : (fs : List Frame) → AllByRecursion IsPutOrAsk fs → length fs ≤ 4096 → length (frames_bytes fs) < 2 ^ 28 → AreRounds (one_round fs) fs
-rounds-fs [] plain few small = record { all = refl; each = All-nil IsRound; full = λ k lt. absurd (omega arith) }
-rounds-fs (f ∷ fs) plain few small = record {
+rounds-fs : (fs : List Frame) → IsOneRoundAtMost fs → AreRounds (one_round fs) fs
+rounds-fs [] round = record { all = refl; each = All-nil IsRound; full = λ k lt. absurd (omega arith) }
+rounds-fs (f ∷ fs) (inl none) = absurd (cc)
+rounds-fs (f ∷ fs) (inr round) = record {
   all = sym (append-nil (f ∷ fs));
-  each = All-cons IsRound (f ∷ fs) [] (record { some = omega arith; first_full = λ k lt. front_is_short (f ∷ fs) k f plain few small lt }) (All-nil IsRound);
+  each = All-cons IsRound (f ∷ fs) [] round (All-nil IsRound);
   full = λ k lt. absurd (omega arith);
 }
 
@@ -415,7 +399,7 @@ module _ (p : Parameters) (fs : List Frame) (h : IsOneRound p fs) where
 
   -- The frames are this one round, or none.
   pub rounds-lane : AreRounds (one_round fs) fs
-  rounds-lane = rounds-fs fs h.plain h.few h.small
+  rounds-lane = rounds-fs fs h.round
 
 -- The text of the one-thread sender's replies to one round is the one-lane text of its frames.
 pub text-lane : (p : Parameters) (fs : List Frame) → IsOneRound p fs → IsOneLaneText p fs (text_of (lane_replies p (empty_version p) fs))

@@ -4,6 +4,5 @@ pub mod Rounds
 pub mod Served
 pub mod Inputs
 pub mod FrameLaws
-pub mod FirstLengths
 pub mod OneLane
 pub mod LaneLaws

@@ -1,11 +1,9 @@
 -- What a request frame asks, and the code of a refusal that its bytes alone decide (the codes are this project's own).
-use Rattle.std.specs.Prelude.{ℕ, ◌+◌, ◌*◌, ◌/◌, ◌%◌, Bool, ◌&&◌, not, nat_eq, nat_lt, nat_le, List, length, take, drop, slice_index, if◌then◌else◌}
-use Rattle.std.specs.List.{list_all, range_with_len}
+use Rattle.std.specs.Prelude.{ℕ, ◌+◌, ◌*◌, Bool, ◌&&◌, not, nat_eq, nat_lt, nat_le, List, length, take, drop, slice_index, if◌then◌else◌}
 use Rattle.std.specs.Cmp.Lexicographic.{pointwise}
 use Rattle.psi_residue.specs.Parameters.{Parameters, parameter_bytes}
-use Rattle.psi_residue.specs.Numbers.{ring_degree, first_modulus, second_modulus}
 use Rattle.item_slots.specs.Tags.{tag_of}
-use Rattle.psi_bundle.specs.Bodies.{residue_at}
+use Rattle.psi_bundle.specs.Bodies.{residues_of_query, residues_fit}
 use Rattle.psi_bundle.specs.declared.history.Call.{Call}
 use Rattle.psi_bundle.specs.declared.history.Call.TheVariants as call
 use Rattle.psi_frames.specs.declared.frame.Frame.{Frame}
@@ -57,18 +55,6 @@ put_code p body = if not (has_item body) then wrong_length else (if nat_eq (leng
 
 abbrev pub drop_code : List ℕ → ℕ
 drop_code body = if has_item body && nat_eq (length body) (item_end body) then 0 else wrong_length
-
--- the residues of a query: four lists for each ciphertext
-abbrev pub residues_of_query : Parameters → ℕ
-residues_of_query p = 4 * ring_degree * (p.rows * p.capacity)
-
--- the modulus of residue number i: the lists go by the first and the second modulus in turn
-abbrev pub modulus_at : ℕ → ℕ
-modulus_at i = if nat_eq (i / ring_degree % 2) 0 then first_modulus else second_modulus
-
--- each of the first n residues of a body is below its modulus
-unfoldable pub residues_fit : List ℕ → ℕ → Bool
-residues_fit body n = list_all (λ i. nat_lt (residue_at body i) (modulus_at i)) (range_with_len 0 n)
 
 -- the code of an Ask, by its body and the Asks before it in its round
 abbrev pub ask_code : Parameters → ℕ → List ℕ → ℕ

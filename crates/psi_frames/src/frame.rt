@@ -4,6 +4,9 @@ use crate::body::Body;
 /// The kind of a frame that puts an item.
 pub const PUT: u8 = 1;
 
+/// The kind of a frame that drops an item.
+pub const DROP: u8 = 2;
+
 /// The kind of a frame that asks.
 pub const ASK: u8 = 3;
 

@@ -9,10 +9,12 @@ mod frame;
 mod number;
 mod reading;
 mod reply;
+mod rounds;
 mod writing;
 
 pub use crate::body::Body;
-pub use crate::frame::{ASK, Frame, PUT};
+pub use crate::frame::{ASK, DROP, Frame, PUT};
 pub use crate::reading::{FramesFault, whole_frames};
 pub use crate::reply::Reply;
+pub use crate::rounds::is_one_round;
 pub use crate::writing::{append_answer, write_answer};

@@ -3,11 +3,11 @@ ghost use Rattle.std.specs.Prelude.{◌≡◌, ◌++◌, List, [], ◌∷◌, �
 ghost use Rattle.psi_frames.specs.declared.frame.Frame.{Frame};
 ghost use Rattle.psi_frames.specs.declared.reading.FramesFault.TheVariants.{Bad, NoMemory};
 ghost use Rattle.psi_frames.specs.Frames.{frame_bytes};
-ghost use Rattle.psi_frames.specs.Inputs.{IsFirstFrame, AreFrames, begins_frame};
+ghost use Rattle.psi_frames.specs.Inputs.{IsPlainFrame, AreFrames, begins_frame};
 ghost use Rattle.psi_frames.specs.FrameLaws.{front_frame, behind_front};
 
 use crate::body::Body;
-use crate::frame::{ASK, Frame, GREATEST_LENGTH, HEAD_BYTES, PUT};
+use crate::frame::{ASK, DROP, Frame, GREATEST_LENGTH, HEAD_BYTES, PUT};
 use byteorder::{BigEndian, ByteOrder};
 use std::alloc::{AllocError, Global};
 
@@ -17,7 +17,7 @@ const BEFORE_BODY: usize = 4 + HEAD_BYTES;
 /// Why an input was not read.
 #[derive(Clone, Copy, PartialEq, Eq, Debug)]
 pub enum FramesFault {
-    /// The bytes are no list of whole frames that put or ask.
+    /// The bytes are no list of whole frames that put, drop or ask.
     Bad,
     /// Memory ran out.
     NoMemory,
@@ -31,8 +31,8 @@ impl From<AllocError> for FramesFault {
     }
 }
 
-/// The frames of an input: whole frames that put an item (kind 1) or ask (kind 3), one after another. A
-/// frame's length word is from 7 to 196608015. `Bad` comes exactly where the bytes are no such list.
+/// The frames of an input: whole frames that put an item (kind 1), drop one (kind 2) or ask (kind 3), one after
+/// another. A frame's length word is from 7 to 196608015. `Bad` comes exactly where the bytes are no such list.
 pub fn whole_frames(alloc: Global, bytes: &[u8]) -> Result<Vec<Frame>, FramesFault>
     ensures found { IfOk result (λ v. AreFrames bytes.now v.items) }
     ensures only { IfOk result (λ v. (fs : List Frame) → AreFrames bytes.now fs → fs ≡ v.items) }
@@ -50,8 +50,8 @@ pub fn whole_frames(alloc: Global, bytes: &[u8]) -> Result<Vec<Frame>, FramesFau
 
 // The frame at the front of the bytes, and what stands behind it.
 fn next_frame<'a>(alloc: Global, bytes: &'a [u8]) -> Result<(Frame, &'a [u8]), FramesFault>
-    ensures found { IfOk result (λ p. IsFirstFrame p.0 × (bytes.now ≡ frame_bytes p.0 ++ p.1.now)) }
-    ensures bad { result ≡ Err Bad → (f : Frame) (x : List ℕ) → IsFirstFrame f → bytes.now ≡ frame_bytes f ++ x → ⊥ }
+    ensures found { IfOk result (λ p. IsPlainFrame p.0 × (bytes.now ≡ frame_bytes p.0 ++ p.1.now)) }
+    ensures bad { result ≡ Err Bad → (f : Frame) (x : List ℕ) → IsPlainFrame f → bytes.now ≡ frame_bytes f ++ x → ⊥ }
 {
     if !begins_frame(bytes) {
         return Err(FramesFault::Bad);
@@ -77,7 +77,7 @@ fn split_frame<'a>(alloc: Global, bytes: &'a [u8]) -> Result<(Frame, &'a [u8]), 
     Ok((frame, behind))
 }
 
-// Whether the bytes begin with a whole frame that puts or asks.
+// Whether the bytes begin with a whole frame that puts, drops or asks.
 fn begins_frame(bytes: &[u8]) -> bool
     ensures { result ≡ begins_frame bytes.now }
 {
@@ -89,7 +89,7 @@ fn begins_frame(bytes: &[u8]) -> bool
     HEAD_BYTES <= length
         && length <= GREATEST_LENGTH
         && 4 + length <= bytes.len()
-        && (kind == PUT || kind == ASK)
+        && (kind == PUT || kind == DROP || kind == ASK)
 }
 
 // Appends a frame to a list.
@@ -113,12 +113,17 @@ mod tests {
         assert_eq!(rt; none.len(), 0);
         let one = whole_frames(rt.alloc(), PUT_OF_ABC)?;
         assert_eq!(rt; one.len(), 1);
+        let drop = whole_frames(
+            rt.alloc(),
+            b"\x00\x00\x00\x0b\x02\x00\x01\x00\x00\x00\x02\x03abc",
+        )?;
         let two = whole_frames(
             rt.alloc(),
             b"\x00\x00\x00\x0b\x01\x00\x01\x00\x00\x00\x01\x03abc\x00\x00\x00\x07\x03\x02\x03\x04\x05\x06\x07",
         )?;
         for (frames, at, kind, session, number, body) in [
             (&one, 0, 1, 1, 1, b"\x03abc".as_slice()),
+            (&drop, 0, 2, 1, 2, b"\x03abc".as_slice()),
             (&two, 0, 1, 1, 1, b"\x03abc".as_slice()),
             (&two, 1, 3, 515, 67438087, b"".as_slice()),
         ] {
@@ -139,7 +144,7 @@ mod tests {
     fn refuses_other_bytes(rt: HostRuntime) {
         for bytes in [
             // a frame of another kind
-            b"\x00\x00\x00\x0b\x02\x00\x01\x00\x00\x00\x01\x03abc".as_slice(),
+            b"\x00\x00\x00\x0b\x04\x00\x01\x00\x00\x00\x01\x03abc".as_slice(),
             // a frame that is cut, alone and behind another
             b"\x00\x00\x00\x0b\x01\x00\x01\x00\x00\x00\x01\x03ab".as_slice(),
             b"\x00\x00\x00\x07\x03\x00\x00\x00\x00\x00\x00\x00\x00\x00\x07\x03".as_slice(),

@@ -2,3 +2,4 @@ pub mod Sums
 pub mod Polynomials
 pub mod Powers
 pub mod Inverses
+pub mod Composition

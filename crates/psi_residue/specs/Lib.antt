@@ -4,3 +4,6 @@ pub mod Polynomials
 pub mod Ring
 pub mod Slots
 pub mod Parameters
+pub mod Residues
+pub mod RootPolynomials
+pub mod Interpolation

@@ -26,3 +26,7 @@ packed v = table ring_degree (packed_at v)
 -- the polynomial whose slots are the list's values
 unfoldable pub packed_list : List ℕ → List ℕ
 packed_list vs = packed (slice_index vs)
+
+-- the slots of the polynomial p
+unfoldable pub slots_of : List ℕ → List ℕ
+slots_of p = table ring_degree (slot_of p)

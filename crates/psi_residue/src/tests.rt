@@ -80,6 +80,25 @@ const INVERSES: [(u64, Option<u64>); 10] = [
     (65536, Some(65536)),
 ];
 
+// A number below the ciphertext modulus and its residues, from Python's whole numbers.
+const RESIDUES: [(u128, u64, u64); 6] = [
+    (0, 0, 0),
+    (1, 1, 1),
+    (4722344527977019809792, 68719403008, 68719230976),
+    (2361172263988509904896, 34359701504, 34359615488),
+    (36028079771556677, 8600804175, 30074166094),
+    (12157665459056928801, 64895753247, 57748822628),
+];
+
+#[test]
+fn residues(rt: HostRuntime) {
+    for (x, first, second) in RESIDUES {
+        assert!(rt; x < Q && first < Q1 && second < Q2);
+        assert_eq!(rt; split(x), (first, second));
+        assert_eq!(rt; compose(first, second), x);
+    }
+}
+
 #[test]
 fn arithmetic(rt: HostRuntime) {
     for (m, a, b, sum, difference, product) in ROWS {

@@ -1,41 +1,48 @@
-use Rattle.std.proofs.Common.{◌≡◌, ◌∙◌, ◌+◌, ◌*◌, ◌%◌, ◌<◌, ℕ, Bool, List, ap, sym, subst, get_or}
-use Rattle.psi_residue.specs.Numbers.{modulus_of, scale}
-use Rattle.psi_residue.specs.Polynomials.{IsPolynomial}
-use Rattle.psi_residue.specs.Ring.{product_at}
-use Rattle.psi_cli.specs.Evaluation.{evaluated_residue}
-use Rattle.psi_cli.proofs.Evaluations.{zeros-residues, zeros-at, evaluated-c0, evaluated-c1, evaluated-list}
+use Rattle.std.proofs.Common.{◌≡◌, ◌≤◌, ◌+◌, ℕ, List, Vec, Global, length, map, ap, sym, subst, ◌∙◌, arith}
+use Rattle.bfv_core.specs.EncryptedLists.{with_plain, with_product}
+use Rattle.bfv_core.specs.Evaluations.{evaluated}
+use Rattle.psi_cli.specs.Evaluation.{ciphertext_at, root_factors, IsRootPlane}
+use Rattle.psi_cli.proofs.Evaluated.{evaluated-start, evaluated-more, same_at}
+use Rattle.psi_cli.proofs.RootPlanes.{column-plaintext, column-packed, vectors-reach}
 use Rattle.psi_cli.proofs.evaluation.evaluate.Goals as goal
-use Rattle.psi_cli.proofs.evaluation.evaluate.Goals.{then-list, else-list}
 
-pub add_scaled-requires-clause-sums : goal.add_scaled-requires-clause-sums
-add_scaled-requires-clause-sums c = zeros-residues c.args.list.modulus c.args.out.now c.requires.zeros
+pub packed_power-requires-clause-reach : goal.packed_power-requires-clause-reach
+packed_power-requires-clause-reach c =
+    let plane = subst (λ (vs : List (Vec ℕ Global)). IsRootPlane c.args.capacity c.args.bundle.now (map (λ v. v.items) vs)) (sym c.deref.ensures.value) c.in_ok-plane.ensures in
+    vectors-reach (λ (v : Vec ℕ Global). v.items) c.args.capacity c.args.bundle.now c.deref.result.now 0 plane (omega arith)
 
-pub add_product-requires-clause-sums : goal.add_product-requires-clause-sums
-add_product-requires-clause-sums c = elim c.if-list.branch [
-  | then-list w ↦ subst (λ (xs : List ℕ). IsPolynomial (modulus_of c.args.list.modulus) xs) (sym w.out-is) w.add_scaled.ensures.residues
-  | else-list w ↦ zeros-residues c.args.list.modulus c.if-list.out (w.out-is ∙ c.requires.zeros)
-]
+pub packed_power-requires-clause-values : goal.packed_power-requires-clause-values
+packed_power-requires-clause-values c =
+    let plane = subst (λ (vs : List (Vec ℕ Global)). IsRootPlane c.args.capacity c.args.bundle.now (map (λ v. v.items) vs)) (sym c.deref.ensures.value) c.in_ok-plane.ensures in
+    column-plaintext c.args.capacity c.args.bundle.now (map (λ (v : Vec ℕ Global). v.items) c.deref.result.now) 0 plane (omega arith)
+
+pub loop-k-init : goal.loop-k-init
+loop-k-init c =
+    let plane = subst (λ (vs : List (Vec ℕ Global)). IsRootPlane c.args.capacity c.args.bundle.now (map (λ v. v.items) vs)) (sym c.deref.ensures.value) c.in_ok-plane.ensures in
+    let factor : c.deref-2.result.now ≡ root_factors c.args.bundle.now 0 =
+    c.deref-2.ensures.value ∙ c.in_ok-packed_power.ensures.packed ∙ column-packed c.args.capacity c.args.bundle.now (map (λ (v : Vec ℕ Global). v.items) c.deref.result.now) 0 plane (omega arith) in
+    c.add_plain.ensures ∙ (λ i. with_plain (c.in_ok-sum.ensures i) (factor i)) ∙ evaluated-start (root_factors c.args.bundle.now) (ciphertext_at c.args.query.now)
+
+pub packed_power-requires-in-loop-k-clause-reach : goal.packed_power-requires-in-loop-k-clause-reach
+packed_power-requires-in-loop-k-clause-reach c =
+    let plane = subst (λ (vs : List (Vec ℕ Global)). IsRootPlane c.args.capacity c.args.bundle.now (map (λ v. v.items) vs)) (sym c.deref-in-loop-k.ensures.value) c.in_ok-plane.ensures in
+    vectors-reach (λ (v : Vec ℕ Global). v.items) c.args.capacity c.args.bundle.now c.deref-in-loop-k.result.now (c.loop-k.k + 1) plane (omega (arith, c.loop-k-test.true, c.requires.powers))
+
+pub packed_power-requires-in-loop-k-clause-values : goal.packed_power-requires-in-loop-k-clause-values
+packed_power-requires-in-loop-k-clause-values c =
+    let plane = subst (λ (vs : List (Vec ℕ Global)). IsRootPlane c.args.capacity c.args.bundle.now (map (λ v. v.items) vs)) (sym c.deref-in-loop-k.ensures.value) c.in_ok-plane.ensures in
+    column-plaintext c.args.capacity c.args.bundle.now (map (λ (v : Vec ℕ Global). v.items) c.deref-in-loop-k.result.now) (c.loop-k.k + 1) plane (omega (arith, c.loop-k-test.true, c.requires.powers))
+
+pub loop-k-preserved : goal.loop-k-preserved
+loop-k-preserved c =
+    let plane = subst (λ (vs : List (Vec ℕ Global)). IsRootPlane c.args.capacity c.args.bundle.now (map (λ v. v.items) vs)) (sym c.deref-in-loop-k.ensures.value) c.in_ok-plane.ensures in
+    let below : c.loop-k.k + 1 ≤ c.args.capacity = omega (arith, c.loop-k-test.true, c.requires.powers) in
+    let factor : c.deref-in-loop-k-2.result.now ≡ root_factors c.args.bundle.now (c.loop-k.k + 1) =
+    c.deref-in-loop-k-2.ensures.value ∙ c.in_ok-packed_power-2.ensures.packed ∙ column-packed c.args.capacity c.args.bundle.now (map (λ (v : Vec ℕ Global). v.items) c.deref-in-loop-k.result.now) (c.loop-k.k + 1) plane below in
+    let ct = same_at c.args.query.now c.loop-k.k c.index-query-k.result c.loop-k-test.true c.index-query-k.is in
+    c.add_product.ensures ∙ (λ i. with_product (c.loop-k.invariant i) (factor i) (ct i)) ∙ evaluated-more c.loop-k.k (root_factors c.args.bundle.now) (ciphertext_at c.args.query.now)
 
 pub returns : goal.returns
 returns c =
-    let m : ℕ = modulus_of c.args.list.modulus in
-    let p0 = c.args.plane.now.constant.items in
-    let p1 = c.args.plane.now.linear.items in
-    let b = c.args.c.now in
-    let start = c.args.out.now in
-    let middle = c.if-list.out in
-    let end = c.add_product.new.out in
-    let sums : (k : ℕ) → k < 4096 → get_or end k 0 ≡ (get_or middle k 0 + product_at m 4096 p1 b k) % m
-    = λ k lt. c.add_product.ensures.added k lt ∙ ap (λ (p : List ℕ). (get_or middle k 0 + product_at m 4096 p b k) % m) c.deref-2.ensures.value in
-    let each : (k : ℕ) → k < 4096 → get_or end k 0 ≡ evaluated_residue p0 p1 b c.args.list.of_c0 m k
-    = λ k lt. elim c.if-list.branch [
-      | then-list w ↦
-          evaluated-c0 m k p0 p1 b start middle (get_or end k 0) (zeros-at start k c.requires.zeros lt)
-          (ap (λ (xs : List ℕ). get_or xs k 0) w.out-is ∙ w.add_scaled.ensures.added k lt ∙ ap (λ (p : List ℕ). (get_or start k 0 + scale * get_or p k 0) % m) w.deref.ensures.value)
-          (sums k lt)
-          ∙ ap (λ (t : Bool). evaluated_residue p0 p1 b t m k) (sym w.if-list.true)
-      | else-list w ↦
-          evaluated-c1 m k p0 p1 b middle (get_or end k 0) (zeros-at middle k (w.out-is ∙ c.requires.zeros) lt) (sums k lt)
-          ∙ ap (λ (t : Bool). evaluated_residue p0 p1 b t m k) (sym w.if-list.false)
-    ] in
-    evaluated-list m p0 p1 b end c.args.list.of_c0 c.add_product.ensures.residues each
+    let all : c.loop-k.k ≡ c.args.capacity = omega (arith, c.loop-k-test.false, c.requires.powers, c.loop-k.auto.k-end) in
+    c.read.ensures.sum ∙ c.loop-k.invariant ∙ ap (λ (n : ℕ). evaluated n (root_factors c.args.bundle.now) (ciphertext_at c.args.query.now)) all

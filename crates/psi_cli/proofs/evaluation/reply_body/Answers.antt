@@ -1,39 +1,34 @@
-use Rattle.std.proofs.Common.{◌≡◌, ◌∙◌, ◌++◌, ℕ, List, length, take, ap, sym, arith}
-use Rattle.std.proofs.Math.Seq.{take-length}
+use Rattle.std.proofs.Common.{◌≡◌, ◌∙◌, ◌++◌, ℕ, List, length, take, ap, sym, subst, refl, arith}
 use Rattle.std.proofs.lemmas.List.{append-nil, append_assoc}
 use Rattle.byteorder.specs.Endian.{big_bytes}
+use Rattle.bfv_core.specs.Evaluations.{evaluated}
+use Rattle.noise_ledger.specs.Verdicts.{parameters_of}
 use Rattle.psi_residue.specs.Parameters.{parameter_bytes}
-use Rattle.psi_bundle.specs.Bodies.{bundle_bytes}
-use Rattle.psi_cli.specs.declared.set.StampedBundle.{StampedBundle}
-use Rattle.psi_cli.specs.FirstInput.{first_parameters}
-use Rattle.psi_cli.proofs.Evaluations.{row_bytes, row_bytes-none, row_bytes-more, reply_body-is}
+use Rattle.psi_bundle.specs.declared.member.Member.{Member}
+use Rattle.psi_cli.specs.Evaluation.{AreWithin, bundle_bins, ciphertext_at, ciphertext_text, root_factors}
+use Rattle.psi_cli.proofs.Sighted.{sight-within, sights_text, sights_text-none, sights_text-more, reply-told}
 use Rattle.psi_cli.proofs.evaluation.reply_body.Goals as goal
 
-pub loop-stamped-init : goal.loop-stamped-init
-loop-stamped-init c =
-    let head = parameter_bytes first_parameters ++ big_bytes 2 (length c.args.row.now) in
-    c.in_ok-push_head.ensures ∙ ap (λ (xs : List ℕ). xs ++ head) c.new-body.ensures.items
-    ∙ sym (append-nil head) ∙ ap (λ (xs : List ℕ). head ++ xs) (sym (row_bytes-none c.args.query.now))
+pub loop-sight-init : goal.loop-sight-init
+loop-sight-init c =
+    let head = parameter_bytes (parameters_of c.args.params.now) ++ big_bytes 2 (length c.args.row.now) in
+    c.in_ok-push_head.ensures ∙ ap (λ (xs : List ℕ). xs ++ head) c.new-reply.ensures.items
+    ∙ sym (append-nil head) ∙ ap (λ (xs : List ℕ). head ++ xs) (sym (sights_text-none bundle_bins c.args.params.now.capacity c.args.query.now))
 
-pub loop-stamped-preserved : goal.loop-stamped-preserved
-loop-stamped-preserved c =
-    let head = parameter_bytes first_parameters ++ big_bytes 2 (length c.args.row.now) in
-    let i = c.loop-stamped.stamped-index in
-    let row = c.args.row.now in
-    let query = c.args.query.now in
-    let u = c.stamped-item.result in
-    let more = bundle_bytes first_parameters query 0 u.bundle in
-    c.in_ok-push_bundle.ensures ∙ ap (λ (xs : List ℕ). xs ++ more) c.loop-stamped.invariant
-    ∙ append_assoc head (row_bytes query (take i row)) more
-    ∙ ap (λ (xs : List ℕ). head ++ xs) (sym (row_bytes-more query row i u (omega arith) c.stamped-item.is))
+pub push_bundle-requires-clause-within : goal.push_bundle-requires-clause-within
+push_bundle-requires-clause-within c =
+    subst (λ (bins : List (List Member)). AreWithin c.args.params.now.capacity bins) (sym c.bundle_of.ensures)
+    (sight-within bundle_bins c.args.params.now.capacity c.args.row.now c.loop-sight.sight-index c.sight-item.result c.loop-sight-test.true c.sight-item.is c.requires.within)
+
+pub loop-sight-preserved : goal.loop-sight-preserved
+loop-sight-preserved c =
+    let head = parameter_bytes (parameters_of c.args.params.now) ++ big_bytes 2 (length c.args.row.now) in
+    let more = ciphertext_text (evaluated c.args.params.now.capacity (root_factors c.bundle_of.result.now) (ciphertext_at c.args.query.now)) in
+    let i = c.loop-sight.sight-index in
+    c.in_ok-push_bundle.ensures ∙ ap (λ (xs : List ℕ). xs ++ more) c.loop-sight.invariant
+    ∙ append_assoc head (sights_text bundle_bins c.args.params.now.capacity c.args.query.now (take i c.args.row.now)) more
+    ∙ ap (λ (xs : List ℕ). head ++ xs) (sights_text-more bundle_bins c.args.params.now.capacity c.args.query.now c.args.row.now i c.sight-item.result c.bundle_of.result.now c.loop-sight-test.true c.sight-item.is c.bundle_of.ensures)
 
 pub returns : goal.returns
 returns c =
-    let head = parameter_bytes first_parameters ++ big_bytes 2 (length c.args.row.now) in
-    let row = c.args.row.now in
-    let query = c.args.query.now in
-    let e : c.loop-stamped.stamped-index ≡ length row = omega arith in
-    c.loop-stamped.invariant
-    ∙ ap (λ (n : ℕ). head ++ row_bytes query (take n row)) e
-    ∙ ap (λ (us : List StampedBundle). head ++ row_bytes query us) (take-length row)
-    ∙ reply_body-is query row
+    reply-told bundle_bins (parameters_of c.args.params.now) c.args.params.now.capacity c.args.query.now c.args.row.now c.loop-sight.sight-index c.loop-sight.reply.items refl (omega arith) c.loop-sight.invariant

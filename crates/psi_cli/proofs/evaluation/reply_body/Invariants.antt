@@ -1,9 +1,12 @@
 use Rattle.std.proofs.Common.{◌≡◌, ◌++◌, length, take}
 use Rattle.byteorder.specs.Endian.{big_bytes}
+use Rattle.noise_ledger.specs.Verdicts.{parameters_of}
 use Rattle.psi_residue.specs.Parameters.{parameter_bytes}
-use Rattle.psi_cli.specs.FirstInput.{first_parameters}
-use Rattle.psi_cli.proofs.Evaluations.{row_bytes}
+use Rattle.psi_cli.specs.Evaluation.{bundle_bins}
+use Rattle.psi_cli.proofs.Sighted.{sights_text}
 use Rattle.psi_cli.proofs.evaluation.reply_body.Given as goal
 
-abbrev pub invariant-loop-stamped : goal.invariant-loop-stamped
-invariant-loop-stamped l = l.body.items ≡ (parameter_bytes first_parameters ++ big_bytes 2 (length l.row)) ++ row_bytes l.query (take l.stamped-index l.row)
+-- the head, and the bundles so far
+abbrev pub invariant-loop-sight : goal.invariant-loop-sight
+invariant-loop-sight l =
+    l.reply.items ≡ (parameter_bytes (parameters_of l.params) ++ big_bytes 2 (length l.row)) ++ sights_text bundle_bins l.params.capacity l.query (take l.sight-index l.row)

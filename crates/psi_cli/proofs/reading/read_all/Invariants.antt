@@ -6,10 +6,10 @@ use Rattle.psi_cli.proofs.reading.read_all.Given as goal
 abbrev pub invariant-loop-bytes : goal.invariant-loop-bytes
 invariant-loop-bytes g l = record {
   read : Consumes (g.S.Source.left l.initial.source) (g.S.Source.left l.source) l.bytes.items;
-  bound : length l.bytes.items ≤ 2 ^ 22;
+  bound : length l.bytes.items ≤ 2 ^ 29;
   faults : g.S.Source.faults l.source ≡ g.S.Source.faults l.initial.source;
 }
 
 -- each turn takes a byte at least
 abbrev pub decreases-loop-bytes : goal.decreases-loop-bytes
-decreases-loop-bytes g l = 2 ^ 22 - length l.bytes.items
+decreases-loop-bytes g l = 2 ^ 29 - length l.bytes.items

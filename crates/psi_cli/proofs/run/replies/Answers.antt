@@ -1,4 +1,5 @@
 use Rattle.std.proofs.Common.{ℕ, List, sym, subst}
+use Rattle.noise_ledger.specs.Verdicts.{parameters_of}
 use Rattle.psi_cli.specs.declared.status.Status.{Status}
 use Rattle.psi_cli.specs.Runs.{GivesUp}
 use Rattle.psi_cli.proofs.Ends.{answered-left, end-gives_up, IsServedText}
@@ -6,10 +7,10 @@ use Rattle.psi_cli.proofs.run.replies.Goals as goal
 
 pub returns-in-Ok-replies_to-clause-answered : goal.returns-in-Ok-replies_to-clause-answered
 returns-in-Ok-replies_to-clause-answered g c =
-    answered-left (g.S.Source.left c.args.input.now) c.in-Ok.bytes.items c.in-Ok-replies_to.text.items c.in-Ok.ensures.bytes
-    (subst (λ (bytes : List ℕ). IsServedText bytes c.in-Ok-replies_to.text.items) c.deref.ensures.value c.in-Ok-replies_to.ensures.served)
+    answered-left (parameters_of c.args.params.now) (g.S.Source.left c.args.input.now) c.in-Ok.bytes.items c.in-Ok-replies_to.text.items c.in-Ok.ensures.bytes
+    (subst (λ (bytes : List ℕ). IsServedText (parameters_of c.args.params.now) bytes c.in-Ok-replies_to.text.items) c.deref.ensures.value c.in-Ok-replies_to.ensures.served)
 
 pub returns-clause-fault : goal.returns-clause-fault
 returns-clause-fault g c =
-    subst (λ (s : Status). GivesUp (g.S.Source.left c.args.input.now) (g.S.Source.faults c.args.input.now) (g.S.Source.faults c.read_all.new.source) s) (sym c.status_of_end.ensures)
-    (end-gives_up _ _ _ c.in-Err.end c.in-Err.ensures.longer c.in-Err.ensures.cause.counted)
+    subst (λ (s : Status). GivesUp (parameters_of c.args.params.now) (g.S.Source.left c.args.input.now) (g.S.Source.faults c.args.input.now) (g.S.Source.faults c.read_all.new.source) s) (sym c.status_of_end.ensures)
+    (end-gives_up (parameters_of c.args.params.now) _ _ _ c.in-Err.end c.in-Err.ensures.longer c.in-Err.ensures.cause.counted)

@@ -7,7 +7,7 @@ use Rattle.std.proofs.lemmas.List.Elements.{All-push, All-same}
 use Rattle.psi_frames.specs.declared.reading.FramesFault.TheVariants.{Bad}
 use Rattle.psi_frames.specs.Frames.{frames_bytes}
 use Rattle.psi_frames.specs.FrameLaws.{length-frame_append}
-use Rattle.psi_frames.specs.Inputs.{IsFirstFrame}
+use Rattle.psi_frames.specs.Inputs.{IsPlainFrame}
 use Rattle.psi_frames.proofs.WholeFrames.{no_input, one_more, same_input}
 use Rattle.psi_frames.proofs.reading.whole_frames.Goals as goal
 
@@ -31,7 +31,7 @@ loop-rest-preserved c =
     let found = c.in_ok-frame.ensures.found in
     record {
       whole = c.loop-rest.invariant.whole ∙ ap (λ (t : List ℕ). frames_bytes vs ++ t) found.1 ∙ one_more vs f x ∙ ap (λ t. frames_bytes t ++ x) (sym c.in_ok-add_frame.ensures);
-      each = All-same IsFirstFrame c.add_frame.new.frames.items (vs ++ f ∷ []) c.in_ok-add_frame.ensures (All-push IsFirstFrame vs f c.loop-rest.invariant.each found.0);
+      each = All-same IsPlainFrame c.add_frame.new.frames.items (vs ++ f ∷ []) c.in_ok-add_frame.ensures (All-push IsPlainFrame vs f c.loop-rest.invariant.each found.0);
     }
 
 pub returns-clause-only : goal.returns-clause-only

@@ -1,0 +1,5 @@
+pub mod Sums
+pub mod Roots
+pub mod Inversion
+pub mod Batches
+pub mod Walks

@@ -1,0 +1,3 @@
+pub mod Encryptions
+pub mod EncryptedLists
+pub mod Evaluations

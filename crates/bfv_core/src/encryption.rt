@@ -1,0 +1,75 @@
+//! Encryption from a seed.
+ghost use Rattle.std.specs.Prelude.{◌≡◌, ◌<◌, ◌*◌, ◌+◌, ◌-◌, ◌%◌, IfOk, pos, length, slice_index_or};
+ghost use Rattle.psi_residue.specs.Numbers.{modulus_of, ring_degree, plain_modulus, scale};
+ghost use Rattle.psi_residue.specs.Polynomials.{IsPolynomial};
+ghost use Rattle.psi_residue.specs.Residues.{residue_of};
+ghost use Rattle.bfv_core.specs.Encryptions.{IsCiphertext, Carries};
+ghost use Rattle.bfv_core.specs.EncryptedLists.{key_of_seed, hidden, encrypted};
+
+use crate::ciphertext::Ciphertext;
+use crate::key::SecretKey;
+use crate::polynomials::{residue, scaled, write_residues};
+use negacyclic::product_plain;
+use psi_residue::{Modulus, N, add, sub};
+use psi_sampler::{error, mask};
+use std::alloc::{AllocError, Global};
+
+/// Ciphertext number `c` of the seed, which carries the plaintext `m`, with the seed's mask a and error e, which are
+/// `psi_sampler`'s: c1 = a and c0 = -a·s + e + Δ·m, where s is the key. The key is the seed's, `c` is below 2400, and the
+/// plaintext has 4096 coefficients below `T`. It fails only for want of memory.
+pub fn encrypt(
+    alloc: Global,
+    key: &SecretKey,
+    seed: &[u8; 32],
+    c: u32,
+    m: &[u32],
+) -> Result<Ciphertext, AllocError>
+    requires key_of_this_seed { key.now ≡ key_of_seed seed.now }
+    requires numbered { c < 2400 }
+    requires plaintext { IsPolynomial plain_modulus m.now }
+    ensures exact { IfOk result (λ ct. ct ≡ encrypted seed.now c m.now) }
+    ensures carries { IfOk result (λ ct. Carries 21 key.now ct m.now) }
+    ensures whole { IfOk result IsCiphertext }
+{
+    let mut first = [0; N];
+    let mut second = [0; N];
+    mask(seed, c, &mut first, &mut second);
+    let mut errors = [0; N];
+    error(seed, c, &mut errors);
+    let mut ct = Ciphertext::zero(alloc)?;
+    let mut c0 = [0; N];
+    hide(Modulus::Q1, &first, key, &errors, m, &mut c0);
+    ct.set(0, &c0);
+    hide(Modulus::Q2, &second, key, &errors, m, &mut c0);
+    ct.set(1, &c0);
+    ct.set(2, &first);
+    ct.set(3, &second);
+    Ok(ct)
+}
+
+// Writes -a·s + e + Δ·plain modulo `m`, with the mask a, the key s and the error e.
+fn hide(m: Modulus, mask: &[u64], key: &SecretKey, errors: &[i8], plain: &[u32], out: &mut [u64])
+    requires masked { IsPolynomial (modulus_of m) mask.now }
+    requires as_many { length errors.now ≡ ring_degree }
+    requires plaintext { IsPolynomial plain_modulus plain.now }
+    requires places { length out.now ≡ ring_degree }
+    ensures hidden { out.new ≡ hidden (modulus_of m) mask.now key.now (λ k. slice_index_or errors.now k (pos 0)) plain.now }
+    ensures polynomial { IsPolynomial (modulus_of m) out.new }
+{
+    let mut s = [0; N];
+    write_residues(m, key.coefficients(), &mut s);
+    product_plain(m, mask, &s, out);
+    for (i, x) in plain.iter().enumerate() {
+        out[i] = hidden_coefficient(m, out[i], errors[i], *x);
+    }
+}
+
+// A coefficient of -a·s + e + Δ·plain, from those of a·s, e and the plaintext.
+fn hidden_coefficient(m: Modulus, product: u64, error: i8, plain: u32) -> u64
+    requires reduced { product < modulus_of m }
+    requires plaintext { plain < plain_modulus }
+    ensures sum { result ≡ (residue_of (modulus_of m) error + (modulus_of m - product) + scale * plain) % modulus_of m }
+    ensures below { result < modulus_of m }
+{
+    add(m, sub(m, residue(m, error), product), scaled(m, plain))
+}

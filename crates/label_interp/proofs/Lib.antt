@@ -1,0 +1,4 @@
+pub mod Forms
+pub mod Unique
+pub mod Lagrange
+pub mod Interpolating

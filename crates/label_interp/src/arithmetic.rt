@@ -1,0 +1,38 @@
+//! Arithmetic modulo the plaintext modulus.
+ghost use Rattle.std.specs.Prelude.{◌≡◌, ◌+◌, ◌-◌, ◌*◌, ◌%◌, ◌<◌, ◌≤◌};
+ghost use Rattle.psi_residue.specs.Numbers.{plain_modulus};
+
+use psi_residue::{T, inv_t};
+
+/// The plaintext modulus.
+pub const MODULUS: u32 = 65537;
+
+// `a` times `b` and `c`, modulo the plaintext modulus.
+pub fn mul_add(a: u32, b: u32, c: u32) -> u32
+    ensures value { result ≡ (a * b + c) % plain_modulus }
+    ensures below { result < plain_modulus }
+{
+    ((u64::from(a) * u64::from(b) + u64::from(c)) % T) as u32
+}
+
+// `a` less `b`, for the factor of a product: congruent to the difference and not yet reduced.
+pub fn difference(a: u32, b: u32) -> u32
+    requires first_below { a < plain_modulus }
+    requires second_below { b < plain_modulus }
+    ensures { result ≡ a + (plain_modulus - b) }
+{
+    a + (MODULUS - b)
+}
+
+// The inverse of `a`.
+pub fn inverse(a: u32) -> u32
+    requires nonzero { 0 < a }
+    requires below { a < plain_modulus }
+    ensures inverse { (a * result) % plain_modulus ≡ 1 }
+    ensures below { result < plain_modulus }
+{
+    match inv_t(u64::from(a)) {
+        Some(inverse) => inverse as u32,
+        None => 0,
+    }
+}

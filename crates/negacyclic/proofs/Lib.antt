@@ -1,0 +1,4 @@
+pub mod Convolutions
+pub mod DoubleSums
+pub mod RingLaws
+pub mod Values

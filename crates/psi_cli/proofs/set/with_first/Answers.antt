@@ -1,9 +1,0 @@
-use Rattle.std.proofs.Common.{List, IsTrue, sym, subst}
-use Rattle.psi_bundle.specs.declared.member.Member.{Member}
-use Rattle.psi_bundle.specs.Bins.{accepts, bin_at}
-use Rattle.psi_cli.proofs.Rows.{fresh-accepts}
-use Rattle.psi_cli.proofs.set.with_first.Goals as goal
-
-pub add-requires-clause-accepted : goal.add-requires-clause-accepted
-add-requires-clause-accepted c =
-    subst (λ (bins : List (List Member)). IsTrue (accepts 1 (bin_at bins c.args.bin) c.args.member.tag)) (sym c.in_ok-empty.ensures) (fresh-accepts c.args.bin c.args.member.tag c.requires)

@@ -1,0 +1,10 @@
+pub mod Steps
+pub mod RootValues
+pub mod Encryptions
+pub mod Slots
+pub mod Evaluated
+pub mod Lists
+pub mod Replies
+pub mod Joined
+pub mod TagBytes
+pub mod Strangers

@@ -1,0 +1,8 @@
+pub mod BigBytes
+pub mod Finding
+pub mod Pieces
+pub mod Residues
+pub mod Spellings
+pub mod ReadBack
+pub mod QueryBodies
+pub mod ReplyBodies

@@ -1,0 +1,203 @@
+-- The body of a reply as a header, numbers of bundles and ciphertexts.
+use Rattle.std.proofs.Common.{◌≡◌, ℕ, ◌+◌, ◌-◌, ◌*◌, ◌<◌, ◌≤◌, List, [], ◌∷◌, ◌++◌, Option, None, Some, not, Bool, true, false, nat_le, nat_eq, eq-eqb, if◌then◌else◌, length, take, drop, map, get_or, refl, ap, sym, subst, ◌∙◌, arith, append_assoc, length-append, length-drop}
+use Rattle.std.specs.List.{All, flat_map, range_with_len, sum}
+use Rattle.std.specs.Option.{option_map}
+use Rattle.std.specs.Cmp.Lexicographic.{pointwise, same_text}
+use Rattle.std.proofs.Math.Seq.{drop-append_seam}
+use Rattle.std.proofs.lemmas.Bool.{eqb-true, leb-true, le-leb}
+use Rattle.std.proofs.lemmas.List.{drop-drop, take-append-drop}
+use Rattle.std.proofs.lemmas.List.Folds.{flat_map-map}
+use Rattle.std.proofs.lemmas.List.FromFn.{fill_by_all, map-range_with_len_more, sum_by-map-range_with_len_more}
+use Rattle.byteorder.specs.Endian.{big_number, big_bytes}
+use Rattle.byteorder.specs.Numbers.{big_number-reads_back, length-bytes_high_first}
+use Rattle.psi_residue.specs.Parameters.{Parameters, parameter_bytes}
+use Rattle.bfv_core.specs.Encryptions.{IsCiphertext}
+use Rattle.query_codec.specs.declared.fault.CodecFault.{CodecFault}
+use Rattle.query_codec.specs.declared.fault.CodecFault.TheVariants as faults
+use Rattle.query_codec.specs.Ciphertexts.{AreCiphertexts, ciphertexts_in, ciphertexts_bytes, wrong_residue}
+use Rattle.query_codec.specs.Replies.{IsReply, row_count, reply_counts, planes_of, reply_head, reply_length, reply_ciphertexts, reply_fault, reply_bytes}
+use Rattle.query_codec.proofs.BigBytes.{big_bytes-big_number}
+use Rattle.query_codec.proofs.Pieces.{pieces, piece_at, length-pieces}
+use Rattle.query_codec.proofs.QueryBodies.{all_behind, same-pointwise}
+use Rattle.query_codec.proofs.ReadBack.{read_back, AreCiphertexts-written}
+use Rattle.query_codec.proofs.Residues.{below-none_wrong, none_wrong}
+use Rattle.query_codec.proofs.Spellings.{spelled_ciphertexts, bytes_from}
+
+-- ---- the numbers of bundles
+
+-- one row more
+pub count_more : (body : List ℕ) (r total count : ℕ) → total ≡ sum (map (row_count body) (range_with_len 0 r)) → count ≡ row_count body r → total + count ≡ sum (map (row_count body) (range_with_len 0 (r + 1)))
+count_more body r total count before here = (λ i. before i + here i) ∙ sym (sum_by-map-range_with_len_more (λ (x : ℕ). x) (row_count body) 0 r r (omega arith))
+
+pub counts_more : (body counts : List ℕ) (r count : ℕ) → counts ≡ map (row_count body) (range_with_len 0 r) → count ≡ row_count body r → counts ++ count ∷ [] ≡ map (row_count body) (range_with_len 0 (r + 1))
+counts_more body counts r count before here = (λ i. before i ++ here i ∷ []) ∙ sym (map-range_with_len_more (row_count body) 0 r r (omega arith))
+
+pub reply_counts-is : (p : Parameters) (body : List ℕ) → map (row_count body) (range_with_len 0 p.rows) ≡ reply_counts p body
+unfolding reply_counts
+reply_counts-is p body = refl
+
+pub planes-is : (p : Parameters) (body : List ℕ) (bundles : ℕ) → bundles ≡ sum (map (row_count body) (range_with_len 0 p.rows)) → (1 + p.units) * bundles ≡ planes_of p (reply_counts p body)
+planes-is p body bundles e = ap (λ (n : ℕ). (1 + p.units) * n) (e ∙ ap sum (reply_counts-is p body))
+
+-- ---- the faults
+
+-- no fault is none of four
+none_of_four : (a b d : Bool) (o : Option ℕ) (first second third : CodecFault) → (if not a then Some first else (if not b then Some second else (if not d then Some third else option_map faults.Residue o))) ≡ None
+    → (a ≡ true) × (b ≡ true) × (d ≡ true) × (o ≡ None)
+none_of_four true true true None first second third h = (refl, refl, refl, refl)
+none_of_four true true true (Some i) first second third h = absurd cc
+none_of_four true true false o first second third h = absurd cc
+none_of_four true false d o first second third h = absurd cc
+none_of_four false b d o first second third h = absurd cc
+
+pub IsReply-no_fault : (p : Parameters) (body : List ℕ) → reply_fault p body ≡ None → IsReply p body
+IsReply-no_fault p body h =
+    let want = reply_length p (reply_counts p body) in
+    let wrong = wrong_residue (drop (reply_head p) body) (16384 * planes_of p (reply_counts p body)) in
+    let each = none_of_four (nat_le (reply_head p) (length body)) (pointwise nat_eq (take 8 body) (parameter_bytes p)) (nat_eq (length body) want) wrong (faults.Length (reply_head p)) faults.WrongParams (faults.Length want) h in
+    record {
+      head = leb-true (reply_head p) (length body) each.0;
+      header = same_text (take 8 body) (parameter_bytes p) (sym each.1);
+      size = eqb-true (length body) want each.2;
+      fit = λ i lt. below-none_wrong (drop (reply_head p) body) (16384 * planes_of p (reply_counts p body)) i each.3 lt;
+    }
+
+pub no_fault-IsReply : (p : Parameters) (body : List ℕ) → IsReply p body → reply_fault p body ≡ None
+no_fault-IsReply p body r =
+    let want = reply_length p (reply_counts p body) in
+    let long : nat_le (reply_head p) (length body) ≡ true = le-leb (reply_head p) (length body) r.head in
+    let header : pointwise nat_eq (take 8 body) (parameter_bytes p) ≡ true = same-pointwise (take 8 body) (parameter_bytes p) r.header in
+    let size : nat_eq (length body) want ≡ true = eq-eqb (length body) want r.size in
+    let fit = none_wrong (drop (reply_head p) body) (16384 * planes_of p (reply_counts p body)) r.fit in
+    (λ i. if not (long i) then Some (faults.Length (reply_head p)) else (if not (header i) then Some faults.WrongParams else (if not (size i) then Some (faults.Length want) else option_map faults.Residue (sym fit i))))
+
+-- the fault of a body of the right length and header
+pub reply_fault_of_residues : (p : Parameters) (body : List ℕ) (head planes : ℕ) → head ≡ reply_head p → planes ≡ planes_of p (reply_counts p body) → reply_head p ≤ length body → true ≡ pointwise nat_eq (take 8 body) (parameter_bytes p)
+    → length body ≡ head + 81920 * planes → option_map faults.Residue (wrong_residue (take (length body - head) (drop head body)) (16384 * planes)) ≡ reply_fault p body
+reply_fault_of_residues p body head planes head-is planes-are within header size =
+    let want = reply_length p (reply_counts p body) in
+    let long : nat_le (reply_head p) (length body) ≡ true = le-leb (reply_head p) (length body) within in
+    let sized : nat_eq (length body) want ≡ true = eq-eqb (length body) want (size ∙ (λ i. head-is i + 81920 * planes-are i)) in
+    ap (λ (xs : List ℕ). option_map faults.Residue (wrong_residue xs (16384 * planes))) (all_behind head body)
+    ∙ (λ i. option_map faults.Residue (wrong_residue (drop (head-is i) body) (16384 * planes-are i)))
+    ∙ sym (λ i. if not (long i) then Some (faults.Length (reply_head p)) else (if not (sym header i) then Some faults.WrongParams else (if not (sized i) then Some (faults.Length want) else option_map faults.Residue (wrong_residue (drop (reply_head p) body) (16384 * planes_of p (reply_counts p body))))))
+
+-- the fault of a body whose header is right, but whose length is not
+pub reply_fault_of_size : (p : Parameters) (body : List ℕ) (want : ℕ) → want ≡ reply_length p (reply_counts p body) → reply_head p ≤ length body → true ≡ pointwise nat_eq (take 8 body) (parameter_bytes p)
+    → (length body ≡ want → ⊥) → Some (faults.Length want) ≡ reply_fault p body
+reply_fault_of_size p body want e within header other = sized (nat_eq (length body) (reply_length p (reply_counts p body))) refl
+  where
+    sized : (b : Bool) → nat_eq (length body) (reply_length p (reply_counts p body)) ≡ b → Some (faults.Length want) ≡ reply_fault p body
+    sized true same = absurd (other (eqb-true (length body) (reply_length p (reply_counts p body)) same ∙ sym e))
+    sized false differs =
+        let long : nat_le (reply_head p) (length body) ≡ true = le-leb (reply_head p) (length body) within in
+        ap (λ (n : ℕ). Some (faults.Length n)) e
+        ∙ sym (λ i. if not (long i) then Some (faults.Length (reply_head p)) else (if not (sym header i) then Some faults.WrongParams else (if not (differs i) then Some (faults.Length (reply_length p (reply_counts p body))) else option_map faults.Residue (wrong_residue (drop (reply_head p) body) (16384 * planes_of p (reply_counts p body))))))
+
+-- ---- what a body says
+
+pub AreCiphertexts-reply : (p : Parameters) (body : List ℕ) → IsReply p body → AreCiphertexts (drop (reply_head p) body) (planes_of p (reply_counts p body))
+AreCiphertexts-reply p body r = record {
+  size =
+      let n = planes_of p (reply_counts p body) in
+      let size : length body ≡ reply_head p + 81920 * n = r.size in
+      behind_length (length body) (reply_head p) (81920 * n) (length (drop (reply_head p) body)) size (length-drop (reply_head p) body);
+  fit = r.fit;
+}
+  where
+    behind_length : (all head rest behind : ℕ) → all ≡ head + rest → behind ≡ all - head → behind ≡ rest
+    behind_length all head rest behind e f = omega (arith, e, f)
+
+pub reply_ciphertexts-is : (p : Parameters) (body : List ℕ) (head planes : ℕ) → head ≡ reply_head p → planes ≡ planes_of p (reply_counts p body) → ciphertexts_in (take (length body - head) (drop head body)) planes ≡ reply_ciphertexts p body
+unfolding reply_ciphertexts
+reply_ciphertexts-is p body head planes head-is planes-are =
+    ap (λ (xs : List ℕ). ciphertexts_in xs planes) (all_behind head body) ∙ (λ i. ciphertexts_in (drop (head-is i) body) (planes-are i))
+
+-- the numbers, written again
+spelled_counts : (body : List ℕ) (rows : ℕ) → 8 + 2 * rows ≤ length body → ((i : ℕ) → get_or body i 0 < 256) → flat_map (big_bytes 2) (map (row_count body) (range_with_len 0 rows)) ≡ take (2 * rows) (drop 8 body)
+unfolding row_count
+spelled_counts body rows within each =
+    flat_map-map (big_bytes 2) (row_count body) (range_with_len 0 rows)
+    ∙ pieces (λ r. big_bytes 2 (row_count body r)) 2 (drop 8 body) rows
+    (λ r lt.
+    big_bytes-big_number 2 (drop (8 + 2 * r) body) (omega (arith, length-drop (8 + 2 * r) body)) (bytes_from (8 + 2 * r) body each)
+    ∙ ap (λ (ys : List ℕ). take 2 ys) (sym (drop-drop (2 * r) 8 body)))
+
+-- a body is spelled by what it says
+pub spelled_reply : (p : Parameters) (body counts : List ℕ) (cts : List (List (List ℕ))) → IsReply p body → ((i : ℕ) → get_or body i 0 < 256) → counts ≡ reply_counts p body → cts ≡ reply_ciphertexts p body → reply_bytes p counts cts ≡ body
+unfolding reply_bytes reply_counts reply_ciphertexts
+spelled_reply p body counts cts r each counts-are cts-are =
+    let numbers : flat_map (big_bytes 2) counts ≡ take (2 * p.rows) (drop 8 body) = ap (flat_map (big_bytes 2)) counts-are ∙ spelled_counts body p.rows r.head each in
+    let text : ciphertexts_bytes cts ≡ drop (2 * p.rows) (drop 8 body) =
+    ap ciphertexts_bytes cts-are
+    ∙ spelled_ciphertexts (drop (reply_head p) body) (planes_of p (reply_counts p body)) (AreCiphertexts-reply p body r) (bytes_from (reply_head p) body each)
+    ∙ sym (drop-drop (2 * p.rows) 8 body) in
+    (λ i. sym r.header i ++ numbers i ++ text i)
+    ∙ append_assoc (take 8 body) (take (2 * p.rows) (drop 8 body)) (drop (2 * p.rows) (drop 8 body))
+    ∙ ap (λ (ys : List ℕ). take 8 body ++ ys) (take-append-drop (2 * p.rows) (drop 8 body))
+    ∙ take-append-drop 8 body
+
+-- ---- what was written
+
+-- behind the numbers stand the ciphertexts
+behind_numbers : (p : Parameters) (counts : List ℕ) (rest : List ℕ) → length counts ≡ p.rows → drop (reply_head p) (parameter_bytes p ++ flat_map (big_bytes 2) counts ++ rest) ≡ rest
+behind_numbers p counts rest rows =
+    let long = length-pieces (big_bytes 2) 2 counts 0 (λ j within. length-bytes_high_first 2 (get_or counts j 0)) in
+    let e : 2 * p.rows ≡ length (flat_map (big_bytes 2) counts) = omega (arith, long, rows) in
+    sym (drop-drop (2 * p.rows) 8 (parameter_bytes p ++ flat_map (big_bytes 2) counts ++ rest))
+    ∙ ap (λ (n : ℕ). drop n (flat_map (big_bytes 2) counts ++ rest)) e
+    ∙ drop-append_seam (flat_map (big_bytes 2) counts) rest
+
+count_written : (p : Parameters) (counts rest : List ℕ) (r : ℕ) → r < length counts → get_or counts r 0 < 65536 → row_count (parameter_bytes p ++ flat_map (big_bytes 2) counts ++ rest) r ≡ get_or counts r 0
+unfolding row_count
+count_written p counts rest r lt small =
+    let piece = piece_at (big_bytes 2) 2 counts 0 r rest (λ j within. length-bytes_high_first 2 (get_or counts j 0)) lt in
+    ap (λ (ys : List ℕ). big_number 2 ys) (sym (drop-drop (2 * r) 8 (parameter_bytes p ++ flat_map (big_bytes 2) counts ++ rest)) ∙ piece.1)
+    ∙ big_number-reads_back 2 (get_or counts r 0) piece.0 small
+
+pub counts_back : (p : Parameters) (counts : List ℕ) (cts : List (List (List ℕ))) → length counts ≡ p.rows → ((i : ℕ) → get_or counts i 0 < 65536) → reply_counts p (reply_bytes p counts cts) ≡ counts
+unfolding reply_counts reply_bytes
+counts_back p counts cts rows small =
+    sym (fill_by_all (row_count (parameter_bytes p ++ flat_map (big_bytes 2) counts ++ ciphertexts_bytes cts)) counts p.rows 0 rows
+    (λ r lt. sym (count_written p counts (ciphertexts_bytes cts) r (omega (arith, rows)) (small r))))
+
+behind_written : (p : Parameters) (counts : List ℕ) (cts : List (List (List ℕ))) → length counts ≡ p.rows → drop (reply_head p) (reply_bytes p counts cts) ≡ ciphertexts_bytes cts
+unfolding reply_bytes
+behind_written p counts cts rows = behind_numbers p counts (ciphertexts_bytes cts) rows
+
+length-reply : (p : Parameters) (counts : List ℕ) (cts : List (List (List ℕ))) → length counts ≡ p.rows → All IsCiphertext cts → length (reply_bytes p counts cts) ≡ reply_head p + 81920 * length cts
+unfolding reply_bytes
+length-reply p counts cts rows each =
+    let numbers = length-pieces (big_bytes 2) 2 counts 0 (λ j within. length-bytes_high_first 2 (get_or counts j 0)) in
+    let text : length (ciphertexts_bytes cts) ≡ 81920 * length cts = (AreCiphertexts-written cts each).size in
+    omega (arith, length-append (flat_map (big_bytes 2) counts) (ciphertexts_bytes cts), numbers, text, rows)
+
+header-reply : (p : Parameters) (counts : List ℕ) (cts : List (List (List ℕ))) → take 8 (reply_bytes p counts cts) ≡ parameter_bytes p
+unfolding reply_bytes
+header-reply p counts cts = refl
+
+-- it is a reply
+pub IsReply-written : (p : Parameters) (counts : List ℕ) (cts : List (List (List ℕ))) → length counts ≡ p.rows → ((i : ℕ) → get_or counts i 0 < 65536) → length cts ≡ planes_of p counts → All IsCiphertext cts → IsReply p (reply_bytes p counts cts)
+IsReply-written p counts cts rows small planes each =
+    let body = reply_bytes p counts cts in
+    let long = length-reply p counts cts rows each in
+    let number : length cts ≡ planes_of p (reply_counts p body) = planes ∙ ap (planes_of p) (sym (counts_back p counts cts rows small)) in
+    let are : AreCiphertexts (drop (reply_head p) body) (planes_of p (reply_counts p body)) =
+    subst (λ (n : ℕ). AreCiphertexts (drop (reply_head p) body) n) number (subst (λ (ys : List ℕ). AreCiphertexts ys (length cts)) (sym (behind_written p counts cts rows)) (AreCiphertexts-written cts each)) in
+    record {
+      head = subst (λ (n : ℕ). reply_head p ≤ n) (sym long) (omega arith);
+      header = header-reply p counts cts;
+      size = long ∙ ap (λ (n : ℕ). reply_head p + 81920 * n) number;
+      fit = are.fit;
+    }
+
+-- and its ciphertexts are those that were written
+pub reply_read_back : (p : Parameters) (counts : List ℕ) (cts : List (List (List ℕ))) → length counts ≡ p.rows → ((i : ℕ) → get_or counts i 0 < 65536) → length cts ≡ planes_of p counts → All IsCiphertext cts → reply_ciphertexts p (reply_bytes p counts cts) ≡ cts
+unfolding reply_ciphertexts
+reply_read_back p counts cts rows small planes each =
+    let number : planes_of p (reply_counts p (reply_bytes p counts cts)) ≡ length cts = ap (planes_of p) (counts_back p counts cts rows small) ∙ sym planes in
+    (λ i. ciphertexts_in (behind_written p counts cts rows i) (number i)) ∙ read_back cts each
+
+pub reply_bytes-is : (p : Parameters) (counts : List ℕ) (cts : List (List (List ℕ))) → (parameter_bytes p ++ flat_map (big_bytes 2) counts) ++ ciphertexts_bytes cts ≡ reply_bytes p counts cts
+unfolding reply_bytes
+reply_bytes-is p counts cts = refl

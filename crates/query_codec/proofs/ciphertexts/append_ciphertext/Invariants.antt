@@ -1,0 +1,11 @@
+use Rattle.std.proofs.Common.{◌≡◌, ◌++◌, ◌<◌, take}
+use Rattle.std.specs.List.{flat_map}
+use Rattle.psi_bundle.specs.Bodies.{residue_bytes}
+use Rattle.bfv_core.specs.Encryptions.{IsCiphertext}
+use Rattle.query_codec.proofs.ciphertexts.append_ciphertext.Given as goal
+
+abbrev pub invariant-loop-list : goal.invariant-loop-list
+invariant-loop-list l = record {
+  done : l.text.items ≡ l.fn.text.items ++ flat_map residue_bytes (take l.list l.ct);
+  whole : 0 < l.list → IsCiphertext l.ct;
+}

@@ -1,0 +1,3 @@
+pub mod Ciphertexts
+pub mod Queries
+pub mod Replies

@@ -1,0 +1,19 @@
+//! The bodies of queries and replies as bytes. A body begins with the 8 bytes of the parameters. Its ciphertexts stand at
+//! its end, 81,920 bytes each. Numbers are big-endian.
+#![tactic(auto)]
+
+mod ciphertexts;
+mod fault;
+mod header;
+mod lists;
+mod query;
+mod reply;
+
+pub use bfv_core::Ciphertext;
+pub use fault::CodecFault;
+pub use lists::{Ciphertexts, Counts};
+pub use query::{read_query, write_query};
+pub use reply::{ReplyBody, read_reply, write_reply};
+
+#[cfg(test)]
+mod tests;

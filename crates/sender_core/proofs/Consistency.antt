@@ -1,0 +1,127 @@
+-- What is always true of a book is true of a new one and stays true with each step.
+use Rattle.std.specs.Prelude.{◌≡◌, ℕ, zero, suc, ◌+◌, ◌≤◌, ◌<◌, List, [], ◌∷◌, ◌++◌, length, map, replicate, Option, Some, None, IfSome, Result, Ok, Err, IfOk, OnOk, OnErr}
+use Rattle.std.specs.List.{All}
+use Rattle.std.specs.FinMap as fin
+use Rattle.std.proofs.Common.{refl, sym, ap, ◌∙◌, arith, subst, length-append, inl, inr}
+use Rattle.std.proofs.lemmas.List.{length-map}
+use Rattle.std.proofs.lemmas.List.Elements.{All-replicate, All-nil}
+use Rattle.std.proofs.lemmas.List.Sums.{fold-append}
+use Rattle.psi_residue.specs.Parameters.{Parameters, parameter_bytes}
+use Rattle.psi_bundle.specs.declared.member.Member.{Member}
+use Rattle.psi_bundle.specs.declared.history.Call.{Call}
+use Rattle.psi_bundle.specs.declared.history.Answer.{Answer}
+use Rattle.psi_bundle.specs.declared.history.Entry.{Entry}
+use Rattle.psi_bundle.specs.Versions.{Version, Row, IsSound, empty_version, planes_of}
+use Rattle.psi_bundle.specs.Steps.{step}
+use Rattle.psi_bundle.specs.Histories.{after, replay, IsLegal}
+use Rattle.noise_ledger.specs.Verdicts.{ArePassed}
+use Rattle.sender_core.specs.Kept.{Kept, Contents, most_entries, row_of, rows_of, version_of, start_of, empty_contents, kept_row, kept_at, IsSameOrBare, IsStep, IsReady, IsStart, IsConsistent}
+use Rattle.sender_core.specs.Sights.{with_cached_bins}
+use Rattle.sender_core.specs.Soundness.{HasRoom, IsAllowed}
+use Rattle.sender_core.proofs.SoundSteps.{sound-step, sound-empty}
+use Rattle.sender_core.proofs.Counting.{size-kept}
+
+-- one entry more is legal where its answer is the step's
+legal-append : (v : Version) (es : List Entry) (e : Entry) → IsLegal v es → e.answer ≡ (step (replay v es) e.call).answer → IsLegal v (es ++ e ∷ [])
+legal-append v [] e l h = (h, tt)
+legal-append v (x ∷ es) e l h = (l.0, legal-append (after v x) es e l.1 h)
+
+-- no bundles, no stamps
+unstamped : (n : ℕ) → All (λ row. All (λ u. u.stamp ≡ 0) row) (replicate {A = Row} n [])
+unstamped n = All-replicate (λ row. All (λ u. u.stamp ≡ 0) row) n [] (All-nil (λ u. u.stamp ≡ 0))
+
+module _ {C : Type 0} (contents : C → List (List Member)) (is_under : C → List ℕ → Type 0) where
+  -- a cache is for the bundle where it stands
+  abbrev Suits : Parameters → Kept C → Type 0
+  Suits p k = IfSome k.cache (λ c. (contents c ≡ k.bins) × is_under c (parameter_bytes p))
+
+  still_suits : (p : Parameters) (stamp : ℕ) (old new : Kept C) → Suits p old → IsSameOrBare stamp old new → Suits p new
+  still_suits p stamp old new h (inl same) = subst (Suits p) (sym same) h
+  still_suits p stamp old new h (inr bare) = subst (λ (o : Option C). IfSome o (λ c. (contents c ≡ new.bins) × is_under c (parameter_bytes p))) (sym bare.1) tt
+
+  -- after one step
+  pub consistent-after : (old new : Contents C) (c : Call) (answer : Answer) → IsConsistent contents is_under old → length old.journal < most_entries → IsAllowed (version_of old) c
+      → IsStep old new c answer → IsConsistent contents is_under new
+  consistent-after old new c answer was free allowed h =
+      let v = version_of old in
+      let e : Entry = record { call = c; answer = answer } in
+      let same = h.same_parameters in
+      let room : HasRoom old.parameters = record { some_rows = was.passed.ranges.some_rows; some_members = was.passed.ranges.some_members } in
+      let start : start_of old ≡ start_of new =
+      λ i. record { parameters = sym same i; count = 0; labels = fin.from_entries (sym h.same_start i).labels; rows = (sym h.same_start i).rows } in
+      let answered : answer ≡ (step (replay (start_of old) old.journal) c).answer = h.answered ∙ ap (λ (w : Version). (step w c).answer) (sym was.replayed) in
+      let legal : IsLegal (start_of old) new.journal = subst (IsLegal (start_of old)) (sym h.journal) (legal-append (start_of old) old.journal e was.legal answered) in
+      let replayed : replay (start_of old) new.journal ≡ version_of new =
+      ap (replay (start_of old)) h.journal ∙ fold-append after (start_of old) old.journal (e ∷ []) ∙ ap (λ (w : Version). after w e) was.replayed ∙ sym h.version in
+      record {
+        passed = subst ArePassed (sym same) was.passed;
+        sound = subst IsSound (sym h.version) (sound-step v c room was.sound allowed);
+        begun = subst IsStart start was.begun;
+        few = let more : length new.journal ≡ length old.journal + 1 = ap length h.journal ∙ length-append old.journal (e ∷ []) in omega (arith, more, free);
+        legal = subst (λ (w : Version). IsLegal w new.journal) start legal;
+        replayed = ap (λ (w : Version). replay w new.journal) (sym start) ∙ replayed;
+        caches = λ r u. still_suits new.parameters (length old.journal + 1) (kept_at (kept_row old.rows r) u) (kept_at (kept_row new.rows r) u)
+            (subst (λ (p : Parameters). Suits p (kept_at (kept_row old.rows r) u)) (sym same) (was.caches r u)) (h.caches r u);
+      }
+
+  -- after one call, whether it was taken or refused
+  pub consistent-either : {T E : Type 0} (r : Result T E) (old new : Contents C) (c : Call) (answer : T → Answer) → IsConsistent contents is_under old → length old.journal < most_entries
+      → IsAllowed (version_of old) c → IfOk r (λ t. IsStep old new c (answer t)) → OnErr r (new ≡ old) → IsConsistent contents is_under new
+  consistent-either (Ok t) old new c answer was free allowed h kept = consistent-after old new c (answer t) was free allowed h
+  consistent-either (Err e) old new c answer was free allowed h kept = subst (IsConsistent contents is_under) (sym kept) was
+
+  pub consistent-done : {E : Type 0} (r : Result (Unit {0}) E) (old new : Contents C) (c : Call) (answer : Answer) → IsConsistent contents is_under old → length old.journal < most_entries
+      → IsAllowed (version_of old) c → OnOk r (IsStep old new c answer) → OnErr r (new ≡ old) → IsConsistent contents is_under new
+  consistent-done (Ok t) old new c answer was free allowed h kept = consistent-after old new c answer was free allowed h
+  consistent-done (Err e) old new c answer was free allowed h kept = subst (IsConsistent contents is_under) (sym kept) was
+
+  -- a book is ready for a step
+  pub ready : (h : Contents C) → IsConsistent contents is_under h → IsReady h
+  ready h was =
+      let planes : planes_of h.parameters (rows_of h.rows) ≤ 64 = was.sound.limits.0 in
+      record {
+        some_rows = was.passed.ranges.some_rows;
+        few_rows = was.passed.ranges.few_rows;
+        some_members = was.passed.ranges.some_members;
+        few_units = was.passed.ranges.few_units;
+        each_row = sym (length-map h.rows row_of) ∙ was.sound.each_row;
+        few_bundles = omega (arith, planes, size-kept h.rows);
+        few_entries = was.few;
+      }
+
+  no_row : (n r : ℕ) → kept_row {C = C} (replicate n []) r ≡ []
+  no_row zero r = refl
+  no_row (suc n) zero = refl
+  no_row (suc n) (suc r) = no_row n r
+
+  rows_alone : (n : ℕ) → rows_of {C = C} (replicate n []) ≡ replicate n []
+  rows_alone zero = refl
+  rows_alone (suc n) = ap (λ (rows : List Row). [] ∷ rows) (rows_alone n)
+
+  -- a new book
+  pub consistent-empty : (p : Parameters) → ArePassed p → IsConsistent contents is_under (empty_contents p)
+  consistent-empty p passed =
+      let is : version_of {C = C} (empty_contents p) ≡ empty_version p = ap (λ (rows : List Row). record { parameters = p; count = 0; labels = fin.empty; rows = rows }) (rows_alone p.rows) in
+      record {
+        passed = passed;
+        sound = subst IsSound (sym is) (sound-empty p);
+        begun = record { sound = sound-empty p; no_entries = refl; no_stamps = unstamped p.rows };
+        few = omega arith;
+        legal = tt;
+        replayed = sym is;
+        caches = λ r u. subst (λ (ks : List (Kept C)). Suits p (kept_at ks u)) (sym (no_row p.rows r)) tt;
+      }
+
+  -- a bundle is seen as it is kept
+  seen_one : (p : Parameters) (stamp : ℕ) (bins : List (List Member)) (o : Option C) → IfSome o (λ c. (contents c ≡ bins) × is_under c (parameter_bytes p))
+      → with_cached_bins contents (record { stamp = stamp; bins = bins; cache = o }) ≡ record { stamp = stamp; bins = bins; cache = o }
+  seen_one p stamp bins (Some c) h = λ i. record { stamp = stamp; bins = h.0 i; cache = Some c }
+  seen_one p stamp bins None h = refl
+
+  seen_row : (p : Parameters) (ks : List (Kept C)) → ((u : ℕ) → Suits p (kept_at ks u)) → map (with_cached_bins contents) ks ≡ ks
+  seen_row p [] h = refl
+  seen_row p (k ∷ ks) h = λ i. seen_one p k.stamp k.bins k.cache (h 0) i ∷ seen_row p ks (λ u. h (suc u)) i
+
+  pub seen_rows : (p : Parameters) (rows : List (List (Kept C))) → ((r u : ℕ) → Suits p (kept_at (kept_row rows r) u)) → map (map (with_cached_bins contents)) rows ≡ rows
+  seen_rows p [] h = refl
+  seen_rows p (ks ∷ rows) h = λ i. seen_row p ks (λ u. h 0 u) i ∷ seen_rows p rows (λ r u. h (suc r) u) i

@@ -1,0 +1,14 @@
+pub mod SoundLists
+pub mod SoundPositions
+pub mod SoundCells
+pub mod SoundPlaced
+pub mod SoundChanged
+pub mod SoundBins
+pub mod SoundSteps
+pub mod FirstFit
+pub mod Caches
+pub mod RowLists
+pub mod Counting
+pub mod TagMaps
+pub mod Entering
+pub mod Consistency

@@ -1,0 +1,150 @@
+-- Rows of a book after one of them was replaced, and folds over a tag's positions.
+use Rattle.std.specs.Prelude.{◌≡◌, ℕ, ◌+◌, ◌/◌, ◌%◌, ◌<◌, Bool, true, List, [], ◌∷◌, ◌++◌, Some, None, length, map, drop, slice_index_or, slice_set, if◌then◌else◌}
+use Rattle.std.specs.List.{fold, position_from}
+use Rattle.std.specs.Arc.{arc_value}
+use Rattle.std.proofs.Common.{sym, ap, ◌∙◌, arith, add-one, subst, Vec, Global}
+use Rattle.std.proofs.lemmas.List.{map-set, map-append, get_or_default, length-map}
+use Rattle.std.proofs.Math.Seq.{drop-cons}
+use Rattle.std.proofs.Math.ListN.{get_or-map}
+use Rattle.psi_bundle.specs.declared.member.Member.{Member}
+use Rattle.psi_bundle.specs.declared.cached.Shown.{Shown}
+use Rattle.item_slots.specs.Tags.{bins_of_row}
+use Rattle.psi_bundle.specs.Bins.{accepts, holds, bin_at, empty_bins}
+use Rattle.psi_bundle.specs.Versions.{Stamped, Row, first_fit, joined, fresh, with_bin, placed_at, changed_at, row_at}
+use Rattle.sender_core.specs.declared.rows.Change.{Change}
+use Rattle.sender_core.specs.Kept.{Kept, stamped_of, row_of, rows_of, kept_row, RowKeepsCaches, KeepCaches}
+use Rattle.sender_core.specs.Shown.{kept_of, kept_of_row, kept_of_rows}
+use Rattle.sender_core.specs.Changes.{bin_after, changed_bundle}
+use Rattle.sender_core.proofs.Caches.{row-set, row-append, rows-set, rows-after, row-changed, changed-alone}
+use Rattle.sender_core.proofs.FirstFit.{position-map, position_passes, place-at, place-none}
+
+-- one more position of a fold
+pub fold_more : {A : Type 0} (f : A → ℕ → A) (done after all : A) (ps : List ℕ) (i d : ℕ) → i < length ps → after ≡ f done (slice_index_or ps i d)
+    → fold f done (drop i ps) ≡ all → fold f after (drop (i + 1) ps) ≡ all
+fold_more f done after all ps i d lt is so_far =
+    ap (λ (a : _). fold f a (drop (i + 1) ps)) is
+    ∙ ap (λ (n : ℕ). fold f (f done (slice_index_or ps i d)) (drop n ps)) (add-one i)
+    ∙ ap (fold f done) (sym (drop-cons ps i d lt))
+    ∙ so_far
+
+module _ {C : Type 0} where
+  -- a row of vectors, read as what is kept
+  pub kept_row-at : (items : List (Vec (Shown C) Global)) (r : ℕ) (v : Vec (Shown C) Global) → r < length items → kept_row (kept_of_rows items) r ≡ kept_of_row (slice_index_or items r v).items
+  kept_row-at items r v lt =
+      let kept : Vec (Shown C) Global → List (Kept C) = λ row. kept_of_row row.items in
+      get_or_default (kept_of_rows items) r [] (kept v) (omega (arith, length-map items kept, lt)) ∙ get_or-map kept items r v
+
+  pub kept_rows-set : (items : List (Vec (Shown C) Global)) (r : ℕ) (v : Vec (Shown C) Global) → kept_of_rows (slice_set items r v) ≡ slice_set (kept_of_rows items) r (kept_of_row v.items)
+  kept_rows-set items r v = map-set (λ (row : Vec (Shown C) Global). kept_of_row row.items) items r v
+
+  row-alone : (rows : List (List (Kept C))) (r : ℕ) → row_at (rows_of rows) r ≡ row_of (kept_row rows r)
+  row-alone rows r = get_or-map row_of rows r []
+
+  -- a row with a member placed in it
+  pub placed-once : (capacity stamp p : ℕ) (m : Member) (rows : List (List (Kept C))) (row : List (Kept C))
+      → row_of row ≡ first_fit capacity stamp (p % bins_of_row) m (row_of (kept_row rows (p / bins_of_row)))
+      → rows_of (slice_set rows (p / bins_of_row) row) ≡ placed_at capacity stamp m (rows_of rows) p
+  unfolding placed_at
+  placed-once capacity stamp p m rows row is =
+      map-set row_of rows (p / bins_of_row) row
+      ∙ ap (slice_set (rows_of rows) (p / bins_of_row)) (is ∙ ap (first_fit capacity stamp (p % bins_of_row) m) (sym (row-alone rows (p / bins_of_row))))
+
+  -- a row with a change in it
+  pub changed-once : (stamp p : ℕ) (c : Change) (tag : List ℕ) (rows : List (List (Kept C))) (row : List (Kept C))
+      → row ≡ map (changed_bundle stamp (p % bins_of_row) c tag) (kept_row rows (p / bins_of_row))
+      → rows_of (slice_set rows (p / bins_of_row) row) ≡ changed_at stamp (bin_after c tag) tag (rows_of rows) p
+  unfolding changed_at
+  changed-once stamp p c tag rows row is =
+      let b = p % bins_of_row in
+      let f : Stamped → Stamped = λ u. if holds (bin_at u.bins b) tag then with_bin stamp b (bin_after c tag (bin_at u.bins b)) u else u in
+      map-set row_of rows (p / bins_of_row) row
+      ∙ ap (slice_set (rows_of rows) (p / bins_of_row))
+      (ap row_of is ∙ changed-alone stamp b c tag (kept_row rows (p / bins_of_row)) ∙ ap (map f) (sym (row-alone rows (p / bins_of_row))))
+
+  -- a row that was replaced, after it was read
+  row-read : (items : List (Vec (Shown C) Global)) (r : ℕ) (old : Vec (Shown C) Global) → r < length items → old ≡ slice_index_or items r old → kept_row (kept_of_rows items) r ≡ kept_of_row old.items
+  row-read items r old lt here = kept_row-at items r old lt ∙ ap (λ (v : Vec (Shown C) Global). kept_of_row v.items) (sym here)
+
+  -- one more position of a tag is placed
+  pub placed-more : (capacity stamp : ℕ) (m : Member) (items : List (Vec (Shown C) Global)) (old new : Vec (Shown C) Global) (ps : List ℕ) (i : ℕ) (all : List Row)
+      → i < length ps → slice_index_or ps i 0 / bins_of_row < length items → old ≡ slice_index_or items (slice_index_or ps i 0 / bins_of_row) old
+      → row_of (kept_of_row new.items) ≡ first_fit capacity stamp (slice_index_or ps i 0 % bins_of_row) m (row_of (kept_of_row old.items))
+      → fold (placed_at capacity stamp m) (rows_of (kept_of_rows items)) (drop i ps) ≡ all
+      → fold (placed_at capacity stamp m) (rows_of (kept_of_rows (slice_set items (slice_index_or ps i 0 / bins_of_row) new))) (drop (i + 1) ps) ≡ all
+  placed-more capacity stamp m items old new ps i all lt within here fit so_far =
+      let p = slice_index_or ps i 0 in
+      let r = p / bins_of_row in
+      let at = row-read items r old within here in
+      let is = ap rows_of (kept_rows-set items r new)
+      ∙ placed-once capacity stamp p m (kept_of_rows items) (kept_of_row new.items) (fit ∙ ap (λ (ks : List (Kept C)). first_fit capacity stamp (p % bins_of_row) m (row_of ks)) (sym at)) in
+      fold_more (placed_at capacity stamp m) (rows_of (kept_of_rows items)) _ all ps i 0 lt is so_far
+
+  -- one more position of a tag is changed
+  pub changed-more : (stamp : ℕ) (c : Change) (tag : List ℕ) (items : List (Vec (Shown C) Global)) (old new : Vec (Shown C) Global) (ps : List ℕ) (i : ℕ) (all : List Row)
+      → i < length ps → slice_index_or ps i 0 / bins_of_row < length items → old ≡ slice_index_or items (slice_index_or ps i 0 / bins_of_row) old
+      → kept_of_row new.items ≡ map (changed_bundle stamp (slice_index_or ps i 0 % bins_of_row) c tag) (kept_of_row old.items)
+      → fold (changed_at stamp (bin_after c tag) tag) (rows_of (kept_of_rows items)) (drop i ps) ≡ all
+      → fold (changed_at stamp (bin_after c tag) tag) (rows_of (kept_of_rows (slice_set items (slice_index_or ps i 0 / bins_of_row) new))) (drop (i + 1) ps) ≡ all
+  changed-more stamp c tag items old new ps i all lt within here made so_far =
+      let p = slice_index_or ps i 0 in
+      let r = p / bins_of_row in
+      let at = row-read items r old within here in
+      let is = ap rows_of (kept_rows-set items r new)
+      ∙ changed-once stamp p c tag (kept_of_rows items) (kept_of_row new.items) (made ∙ ap (map (changed_bundle stamp (p % bins_of_row) c tag)) (sym at)) in
+      fold_more (changed_at stamp (bin_after c tag) tag) (rows_of (kept_of_rows items)) _ all ps i 0 lt is so_far
+
+  -- the caches, where one row keeps them
+  pub caches-more : (stamp r : ℕ) (first : List (List (Kept C))) (items : List (Vec (Shown C) Global)) (old new : Vec (Shown C) Global) → r < length items → old ≡ slice_index_or items r old
+      → RowKeepsCaches stamp (kept_of_row old.items) (kept_of_row new.items) → KeepCaches stamp first (kept_of_rows items) → KeepCaches stamp first (kept_of_rows (slice_set items r new))
+  caches-more stamp r first items old new within here keep so_far =
+      let at = row-read items r old within here in
+      let row : RowKeepsCaches stamp (kept_row (kept_of_rows items) r) (kept_of_row new.items) = subst (λ (ks : List (Kept C)). RowKeepsCaches stamp ks (kept_of_row new.items)) (sym at) keep in
+      let step : KeepCaches stamp (kept_of_rows items) (kept_of_rows (slice_set items r new)) =
+      subst (KeepCaches stamp (kept_of_rows items)) (sym (kept_rows-set items r new)) (rows-set stamp (kept_of_rows items) r (kept_of_row new.items) row) in
+      rows-after stamp first (kept_of_rows items) (kept_of_rows (slice_set items r new)) so_far step
+
+  pub caches-changed : (stamp b r : ℕ) (c : Change) (tag : List ℕ) (first : List (List (Kept C))) (items : List (Vec (Shown C) Global)) (old new : Vec (Shown C) Global) → r < length items → old ≡ slice_index_or items r old
+      → kept_of_row new.items ≡ map (changed_bundle stamp b c tag) (kept_of_row old.items) → KeepCaches stamp first (kept_of_rows items) → KeepCaches stamp first (kept_of_rows (slice_set items r new))
+  caches-changed stamp b r c tag first items old new within here made so_far =
+      caches-more stamp r first items old new within here (subst (RowKeepsCaches stamp (kept_of_row old.items)) (sym made) (row-changed stamp b c tag (kept_of_row old.items))) so_far
+
+-- a member in a row of shown bundles
+module _ {C : Type 0} (capacity stamp b : ℕ) (m : Member) (items : List (Shown C)) where
+  -- the bundle that is found accepts the member
+  pub found-accepts : (i : ℕ) (r : Shown C) (bins : List (List Member)) → position_from (λ u. accepts capacity (bin_at (arc_value u.bundle) b) m.tag) 0 items ≡ Some i → r ≡ slice_index_or items i r
+      → bins ≡ arc_value r.bundle → accepts capacity (bin_at bins b) m.tag ≡ true
+  found-accepts i r bins e here is =
+      let test : Shown C → Bool = λ u. accepts capacity (bin_at (arc_value u.bundle) b) m.tag in
+      ap (λ (bs : List (List Member)). accepts capacity (bin_at bs b) m.tag) is ∙ ap test here ∙ position_passes test items 0 i r (e ∙ ap Some (omega arith))
+
+  -- it is changed
+  module _ (i : ℕ) (r new : Shown C) (bins bundle : List (List Member)) (e : position_from (λ u. accepts capacity (bin_at (arc_value u.bundle) b) m.tag) 0 items ≡ Some i)
+      (here : r ≡ slice_index_or items i r) (is : bins ≡ arc_value r.bundle) (changed_is : bundle ≡ slice_set bins b (bin_at bins b ++ m ∷ []))
+      (new_is : kept_of new ≡ record { stamp = stamp; bins = bundle; cache = None }) where
+    pub fitted-at : row_of (kept_of_row (slice_set items i new)) ≡ first_fit capacity stamp b m (row_of (kept_of_row items))
+    fitted-at =
+        let found = position-map kept_of (λ (k : Kept C). accepts capacity (bin_at k.bins b) m.tag) items 0 ∙ e in
+        let at : kept_of r ≡ slice_index_or (kept_of_row items) i (kept_of r) = sym (get_or-map kept_of items i r ∙ ap kept_of (sym here)) in
+        let to : stamped_of (kept_of new) ≡ joined stamp b m (stamped_of (kept_of r)) = ap stamped_of new_is
+        ∙ ap (λ (bs : List (List Member)). record { stamp = stamp; bins = bs }) (changed_is ∙ ap (λ (bs : List (List Member)). slice_set bs b (bin_at bs b ++ m ∷ [])) is) in
+        ap row_of (map-set kept_of items i new) ∙ place-at capacity stamp b m (kept_of_row items) i (kept_of r) (kept_of new) found at to
+
+    pub caches-at : RowKeepsCaches stamp (kept_of_row items) (kept_of_row (slice_set items i new))
+    caches-at =
+        subst (RowKeepsCaches stamp (kept_of_row items)) (sym (map-set kept_of items i new))
+        (row-set stamp (kept_of new) (ap (λ (k : Kept C). k.stamp) new_is, ap (λ (k : Kept C). k.cache) new_is) (kept_of_row items) i)
+
+  -- none is found, and a new one is made
+  module _ (new : Shown C) (bundle : List (List Member)) (after : List (Shown C)) (e : position_from (λ u. accepts capacity (bin_at (arc_value u.bundle) b) m.tag) 0 items ≡ None)
+      (made_is : bundle ≡ slice_set empty_bins b (bin_at empty_bins b ++ m ∷ [])) (new_is : kept_of new ≡ record { stamp = stamp; bins = bundle; cache = None })
+      (after_is : after ≡ items ++ new ∷ []) where
+    pub fitted-none : row_of (kept_of_row after) ≡ first_fit capacity stamp b m (row_of (kept_of_row items))
+    fitted-none =
+        let found = position-map kept_of (λ (k : Kept C). accepts capacity (bin_at k.bins b) m.tag) items 0 ∙ e in
+        let to : stamped_of (kept_of new) ≡ joined stamp b m (fresh stamp) = ap stamped_of new_is ∙ ap (λ (bs : List (List Member)). record { stamp = stamp; bins = bs }) made_is in
+        ap (λ (us : List (Shown C)). row_of (kept_of_row us)) after_is ∙ ap row_of (map-append kept_of items (new ∷ [])) ∙ place-none capacity stamp b m (kept_of_row items) (kept_of new) found to
+
+    pub caches-none : RowKeepsCaches stamp (kept_of_row items) (kept_of_row after)
+    caches-none =
+        subst (RowKeepsCaches stamp (kept_of_row items)) (sym (ap kept_of_row after_is ∙ map-append kept_of items (new ∷ [])))
+        (row-append stamp (kept_of new) (ap (λ (k : Kept C). k.stamp) new_is, ap (λ (k : Kept C). k.cache) new_is) (kept_of_row items))

@@ -1,0 +1,8 @@
+use Rattle.sender_core.proofs.SoundSteps.{sound-step, sound-empty}
+use Rattle.sender_core.proofs.laws.steps_keep_sets_sound.Goals as goal
+
+pub returns-clause-begins : goal.returns-clause-begins
+returns-clause-begins c = sound-empty
+
+pub returns-clause-goes_on : goal.returns-clause-goes_on
+returns-clause-goes_on c = sound-step

@@ -1,0 +1,28 @@
+-- What keeps a labelled set sound: the law of one step.
+use Rattle.std.specs.Prelude.{◌≡◌, ◌*◌, ◌≤◌, length}
+use Rattle.std.specs.Bool.{⊤}
+use Rattle.psi_bundle.specs.declared.history.Call.{Call}
+use Rattle.psi_bundle.specs.declared.history.Call.TheVariants as call
+use Rattle.psi_residue.specs.Parameters.{Parameters}
+use Rattle.psi_bundle.specs.Versions.{Version, IsSound, empty_version}
+use Rattle.psi_bundle.specs.Steps.{step}
+
+-- parameters of at least one row, and of at least one member a bin
+pub record HasRoom (p : Parameters) : Type 0 where
+  pub some_rows : 1 ≤ p.rows
+  pub some_members : 1 ≤ p.capacity
+
+-- a call that the law of one step speaks of: a label has its length, and no row is packed anew
+abbrev pub IsAllowed : Version → Call → Type 0
+IsAllowed v (call.Put tag label) = length label ≡ 10 * v.parameters.units
+IsAllowed v (call.Drop tag) = ⊤
+IsAllowed v call.Ask = ⊤
+IsAllowed v (call.Repack row from) = ⊥
+
+-- one step of a sound set leaves a sound set
+abbrev pub StepsKeepSetsSound : Type 0
+StepsKeepSetsSound = (v : Version) (c : Call) → HasRoom v.parameters → IsSound v → IsAllowed v c → IsSound (step v c).version
+
+-- a set without tags is sound
+abbrev pub EmptyIsSound : Type 0
+EmptyIsSound = (p : Parameters) → IsSound (empty_version p)

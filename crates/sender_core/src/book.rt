@@ -1,0 +1,175 @@
+//! The book.
+ghost use Rattle.std.specs.Prelude.{◌≡◌, ◌≤◌, ◌<◌, ◌*◌, ◌^◌, ◌↔◌, ℕ, length, IfOk, IfErr, IfSome, IsNone, IsErr, OnErr, OnOk, slice_index_or};
+
+use crate::answers::{DropAnswer, ENTRIES, Placed, Put, Refusal};
+use crate::snapshot::Snapshot;
+use crate::state::State;
+use item_slots::Tag;
+use noise_ledger::Params;
+use psi_bundle::{Cached, Entry, Label, Shown};
+use std::alloc::{AllocError, Global};
+use std::marker::Model;
+
+/// A labelled set with the journal of its entries, and caches beside its bundles. Clauses see its contents.
+///
+/// What is true of every book is `IsConsistent`: its parameters pass the check, its version is sound, its start is a
+/// sound version without entries whose stamps are all 0, its journal has at most 2^20 entries, is legal from the
+/// start and leads to the version, and each cache is for the bundle where it stands, under the book's parameters.
+#[derive(Drop)]
+pub struct Book<C: Cached> {
+    state: State<C>,
+}
+
+impl<C: Cached> Model for Book<C> {
+    ghost use Rattle.sender_core.specs.Kept.{Contents, IsConsistent};
+    ghost use Rattle.sender_core.specs.States.{contents_of};
+
+    ghost Value = { Contents C };
+
+    ghost view = { λ b. contents_of b.state };
+
+    ghost invariant = { λ b. IsConsistent C.contents C.is_under (contents_of b.state) };
+}
+
+impl<C: Cached + Drop> Book<C> {
+    ghost use Rattle.std.specs.Option.{option_copied};
+    ghost use Rattle.std.specs.FinMap as fin;
+    ghost use Rattle.psi_bundle.specs.declared.history.Call.TheVariants as Call;
+    ghost use Rattle.psi_bundle.specs.declared.history.Answer.TheVariants.{Seen};
+    ghost use Rattle.noise_ledger.specs.Verdicts.{ArePassed, parameters_of};
+    ghost use Rattle.sender_core.specs.Kept.{version_of, kept_row, empty_contents, IsConsistent, IsStep};
+    ghost use Rattle.sender_core.specs.Shown.{kept_of_row};
+    ghost use Rattle.sender_core.specs.Answers.{answer_of_put, answer_of_drop, cause_at};
+
+    /// The book of an empty set with these parameters, which pass the check. It starts from the empty version.
+    pub fn open(alloc: Global, params: &Params) -> Result<Book<C>, AllocError>
+        requires { ArePassed (parameters_of params.now) }
+        ensures { IfOk result (λ book. book ≡ empty_contents (parameters_of params.now)) }
+    {
+        let state = State::empty(alloc, params)?;
+        Ok(Book { state })
+    }
+
+    /// Takes room for so many entries more, at most 4096, or for all up to the limit of 2^20. The book stays as it is.
+    pub fn reserve(&mut self, entries: u32) -> Result<(), AllocError>
+        requires { entries ≤ 4096 }
+        ensures { self.new ≡ self.old }
+    {
+        self.state.reserve(entries)
+    }
+
+    /// The number of entries.
+    pub fn count(&self) -> u64
+        ensures number { result ≡ length self.now.journal }
+        ensures consistent { IsConsistent C.contents C.is_under self.now }
+    {
+        self.state.count()
+    }
+
+    /// The entry at a place. None exactly from the count on.
+    pub fn entry(&self, k: u64) -> Option<&Entry>
+        ensures value { IfSome result (λ entry. entry.now ≡ slice_index_or self.now.journal k entry.now) }
+        ensures none { IsNone result ↔ (length self.now.journal ≤ k) }
+    {
+        self.state.journal.get(k as usize)
+    }
+
+    /// The label of a tag. None exactly where the tag is not in the map.
+    pub fn label(&self, tag: &Tag) -> Option<&Label>
+        ensures { option_copied result ≡ fin.get (version_of self.now).labels tag.now }
+    {
+        self.state.labels.get(tag)
+    }
+
+    /// The bundles of a row, with their stamps and caches.
+    pub fn bundles(&self, row: u8) -> &[Shown<C>]
+        requires { row < self.now.parameters.rows }
+        ensures { kept_of_row result.now ≡ kept_row self.now.rows row }
+    {
+        &self.state.rows[row as usize]
+    }
+
+    /// Puts a tag with its label of `10·units` bytes: it is the step of that call, and its entry is the next.
+    ///
+    /// `JournalFull` comes exactly where the journal has 2^20 entries, before anything else is looked at. After a
+    /// refusal the book is as before. A bundle that changes loses its cache.
+    pub fn put(&mut self, alloc: Global, tag: Tag, label: Label) -> Result<Placed<Put>, Refusal>
+        requires { length label ≡ 10 * self.old.parameters.units }
+        ensures stepped { IfOk result (λ placed. IsStep self.old self.new (Call.Put tag label) (answer_of_put placed.answer)) }
+        ensures place { IfOk result (λ placed. placed.place ≡ length self.old.journal) }
+        ensures full { length self.old.journal ≡ 2 ^ 20 → IsErr result }
+        ensures cause { IfErr result (λ refusal. refusal ≡ cause_at (length self.old.journal)) }
+        ensures kept { OnErr result (self.new ≡ self.old) }
+    {
+        let place = self.next_place()?;
+        match self.state.put(alloc, tag, label) {
+            Ok(answer) => Ok(Placed { answer, place }),
+            Err(_) => Err(Refusal::NoMemory),
+        }
+    }
+
+    /// Takes a tag out of the set: it is the step of that call, and its entry is the next.
+    ///
+    /// `JournalFull` comes exactly where the journal has 2^20 entries, before anything else is looked at. After a
+    /// refusal the book is as before. A bundle that changes loses its cache.
+    pub fn drop_tag(&mut self, alloc: Global, tag: Tag) -> Result<Placed<DropAnswer>, Refusal>
+        ensures stepped { IfOk result (λ placed. IsStep self.old self.new (Call.Drop tag) (answer_of_drop placed.answer)) }
+        ensures place { IfOk result (λ placed. placed.place ≡ length self.old.journal) }
+        ensures full { length self.old.journal ≡ 2 ^ 20 → IsErr result }
+        ensures cause { IfErr result (λ refusal. refusal ≡ cause_at (length self.old.journal)) }
+        ensures kept { OnErr result (self.new ≡ self.old) }
+    {
+        let place = self.next_place()?;
+        match self.state.drop_tag(alloc, tag) {
+            Ok(answer) => Ok(Placed { answer, place }),
+            Err(_) => Err(Refusal::NoMemory),
+        }
+    }
+
+    /// Shows the bundles as they stand, with their caches: it is the step of an Ask, and its entry is the next, whose
+    /// place the snapshot has.
+    ///
+    /// `JournalFull` comes exactly where the journal has 2^20 entries, before anything else is looked at. After a
+    /// refusal the book is as before.
+    pub fn ask(&mut self, alloc: Global) -> Result<Placed<Snapshot<C>>, Refusal>
+        ensures stepped { OnOk result (IsStep self.old self.new Call.Ask Seen) }
+        ensures shown { IfOk result (λ placed. placed.answer ≡ record { place = length self.old.journal; rows = self.old.rows }) }
+        ensures rows { IfOk result (λ placed. length placed.answer.rows ≡ self.old.parameters.rows) }
+        ensures place { IfOk result (λ placed. placed.place ≡ length self.old.journal) }
+        ensures full { length self.old.journal ≡ 2 ^ 20 → IsErr result }
+        ensures cause { IfErr result (λ refusal. refusal ≡ cause_at (length self.old.journal)) }
+        ensures kept { OnErr result (self.new ≡ self.old) }
+    {
+        let place = self.next_place()?;
+        let answer = match self.seen(alloc, place) {
+            Ok(snapshot) => snapshot,
+            Err(_) => return Err(Refusal::NoMemory),
+        };
+        match self.state.ask() {
+            Ok(()) => Ok(Placed { answer, place }),
+            Err(_) => Err(Refusal::NoMemory),
+        }
+    }
+
+    // The bundles as they stand, for the entry at this place.
+    fn seen(&self, alloc: Global, place: u64) -> Result<Snapshot<C>, AllocError>
+        ensures shown { IfOk result (λ snapshot. snapshot ≡ record { place = place; rows = self.now.rows }) }
+        ensures rows { length self.now.rows ≡ self.now.parameters.rows }
+    {
+        Snapshot::of(alloc, place, &self.state.rows)
+    }
+
+    // The place of the next entry, where the journal is not full.
+    fn next_place(&self) -> Result<u64, Refusal>
+        ensures place { IfOk result (λ place. place ≡ length self.now.journal) }
+        ensures free { OnOk result (length self.now.journal < 2 ^ 20) }
+        ensures full { IfErr result (λ refusal. (refusal ≡ cause_at (length self.now.journal)) × (length self.now.journal ≡ 2 ^ 20)) }
+    {
+        let place = self.state.count();
+        if place < ENTRIES {
+            Ok(place)
+        } else {
+            Err(Refusal::JournalFull { entries: place })
+        }
+    }
+}

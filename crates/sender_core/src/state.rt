@@ -1,0 +1,227 @@
+//! What a book consists of, and the three ways in which an entry changes it.
+ghost use Rattle.std.specs.Prelude.{◌≡◌, ℕ, ◌≤◌, ◌<◌, ◌^◌, [], ◌∷◌, ◌++◌, true, false, length, IfOk, OnOk, OnErr, replicate, is_some};
+ghost use Rattle.std.specs.Vec.{vec_len, vec_capacity};
+ghost use Rattle.sender_core.specs.Shown.{kept_of_rows};
+
+use crate::answers::{DropAnswer, ENTRIES, Put};
+use crate::rows::{Change, bundles, changed, placed};
+use item_slots::{Tag, positions};
+use noise_ledger::Params;
+use psi_bundle::{Answer, Call, Entry, Label, Member, Shown};
+use std::alloc::{AllocError, Global};
+use std::collections::BTreeMap;
+
+// The most planes and cells of a set.
+const PLANES: u32 = 64;
+
+const CELLS: u32 = 4096;
+
+/// The parameters, the labels by tag, the rows of bundles and the journal.
+#[derive(Drop)]
+pub(crate) struct State<C> {
+    pub(crate) params: Params,
+    pub(crate) labels: BTreeMap<Tag, Label>,
+    pub(crate) rows: Vec<Vec<Shown<C>>>,
+    pub(crate) journal: Vec<Entry>,
+}
+
+// So many rows without bundles.
+fn empty_rows<C: Drop>(alloc: Global, rows: u8) -> Result<Vec<Vec<Shown<C>>>, AllocError>
+    ensures { IfOk result (λ empty. kept_of_rows empty.items ≡ replicate rows []) }
+{
+    let mut empty = Vec::with_capacity(alloc, usize::from(rows))?;
+    for _made in 0..usize::from(rows) {
+        empty.push(Vec::new(alloc))?;
+    }
+    Ok(empty)
+}
+
+// Adds an entry to a journal that has room for it.
+fn write_entry(journal: &mut Vec<Entry>, call: Call, answer: Answer)
+    requires { vec_len journal.old < vec_capacity journal.old }
+    ensures { journal.new.items ≡ journal.old.items ++ record { call = call; answer = answer } ∷ [] }
+{
+    let _ = journal.push(Entry { call, answer });
+}
+
+impl<C: Drop> State<C> {
+    ghost use Rattle.std.specs.FinMap as fin;
+    ghost use Rattle.psi_bundle.specs.Steps.{step};
+    ghost use Rattle.psi_bundle.specs.declared.history.Call.TheVariants as Call;
+    ghost use Rattle.noise_ledger.specs.Verdicts.{parameters_of};
+    ghost use Rattle.sender_core.specs.Kept.{version_of, empty_start, IsStep, IsReady, KeepCaches, bundles_of};
+    ghost use Rattle.sender_core.specs.States.{contents_of, IsEntered};
+    ghost use Rattle.sender_core.specs.Shown.{kept_of_rows};
+    ghost use Rattle.psi_bundle.specs.declared.history.Answer.TheVariants.{Removed, Seen};
+    ghost use Rattle.sender_core.specs.Answers.{answer_of_put, answer_of_drop};
+
+    /// No labels, no bundles, no entries.
+    pub(crate) fn empty(alloc: Global, params: &Params) -> Result<State<C>, AllocError>
+        ensures { IfOk result (λ state. contents_of state ≡ record { parameters = parameters_of params.now; start = empty_start (parameters_of params.now); labels = []; rows = replicate params.now.rows []; journal = [] }) }
+    {
+        Ok(State {
+            params: *params,
+            labels: BTreeMap::new(alloc),
+            rows: empty_rows(alloc, params.rows)?,
+            journal: Vec::new(alloc),
+        })
+    }
+
+    /// The number of entries.
+    pub(crate) fn count(&self) -> u64
+        ensures { result ≡ length (contents_of self.now).journal }
+    {
+        self.journal.len() as u64
+    }
+
+    /// Takes room for so many entries more, or for all up to the most that a journal has.
+    pub(crate) fn reserve(&mut self, entries: u32) -> Result<(), AllocError>
+        requires { length (contents_of self.old).journal ≤ 2 ^ 20 }
+        ensures { contents_of self.new ≡ contents_of self.old }
+    {
+        let free = ENTRIES - self.count();
+        self.journal.reserve(free.min(u64::from(entries)) as usize)
+    }
+
+    /// Puts a tag with its label.
+    pub(crate) fn put(&mut self, alloc: Global, tag: Tag, label: Label) -> Result<Put, AllocError>
+        requires { IsReady (contents_of self.old) }
+        ensures stepped { IfOk result (λ put. IsStep (contents_of self.old) (contents_of self.new) (Call.Put tag label) (answer_of_put put)) }
+        ensures kept { OnErr result (contents_of self.new ≡ contents_of self.old) }
+    {
+        if self.labels.contains_key(&tag) {
+            self.replace(alloc, tag, label)
+        } else {
+            self.add(alloc, tag, label)
+        }
+    }
+
+    // Gives a tag of the map another label.
+    fn replace(&mut self, alloc: Global, tag: Tag, label: Label) -> Result<Put, AllocError>
+        requires ready { IsReady (contents_of self.old) }
+        requires present { is_some (fin.get (version_of (contents_of self.old)).labels tag) ≡ true }
+        ensures stepped { IfOk result (λ put. IsStep (contents_of self.old) (contents_of self.new) (Call.Put tag label) (answer_of_put put)) }
+        ensures kept { OnErr result (contents_of self.new ≡ contents_of self.old) }
+    {
+        let places = positions(&tag, self.params.rows);
+        let change = Change::Relabel { label };
+        let rows = changed(
+            alloc,
+            &self.rows,
+            self.count() + 1,
+            places.list(),
+            &tag,
+            &change,
+        )?;
+        self.enter(tag, label, rows, Answer::Replaced)?;
+        Ok(Put::Replaced)
+    }
+
+    // Adds a tag that is not in the map, where the limits allow it.
+    fn add(&mut self, alloc: Global, tag: Tag, label: Label) -> Result<Put, AllocError>
+        requires ready { IsReady (contents_of self.old) }
+        requires absent { is_some (fin.get (version_of (contents_of self.old)).labels tag) ≡ false }
+        ensures stepped { IfOk result (λ put. IsStep (contents_of self.old) (contents_of self.new) (Call.Put tag label) (answer_of_put put)) }
+        ensures kept { OnErr result (contents_of self.new ≡ contents_of self.old) }
+    {
+        let places = positions(&tag, self.params.rows);
+        let rows = placed(
+            alloc,
+            &self.rows,
+            self.count() + 1,
+            places.list(),
+            &Member { tag, label },
+            self.params.capacity,
+        )?;
+        let planes = bundles(&rows) * (1 + u32::from(self.params.units));
+        let cells = planes * (u32::from(self.params.capacity) + 1);
+        if planes <= PLANES && cells <= CELLS {
+            self.enter(tag, label, rows, Answer::Added)?;
+            Ok(Put::Added)
+        } else {
+            self.note(Call::Put { tag, label }, Answer::Full { planes, cells })?;
+            Ok(Put::Full { planes, cells })
+        }
+    }
+
+    /// Takes a tag out.
+    pub(crate) fn drop_tag(&mut self, alloc: Global, tag: Tag) -> Result<DropAnswer, AllocError>
+        requires { IsReady (contents_of self.old) }
+        ensures stepped { IfOk result (λ dropped. IsStep (contents_of self.old) (contents_of self.new) (Call.Drop tag) (answer_of_drop dropped)) }
+        ensures kept { OnErr result (contents_of self.new ≡ contents_of self.old) }
+    {
+        if self.labels.contains_key(&tag) {
+            self.remove(alloc, tag)?;
+            Ok(DropAnswer::Removed)
+        } else {
+            self.note(Call::Drop { tag }, Answer::Absent)?;
+            Ok(DropAnswer::Absent)
+        }
+    }
+
+    /// Adds the entry of a query, which changes nothing else.
+    pub(crate) fn ask(&mut self) -> Result<(), AllocError>
+        ensures stepped { OnOk result (IsStep (contents_of self.old) (contents_of self.new) Call.Ask Seen) }
+        ensures kept { OnErr result (contents_of self.new ≡ contents_of self.old) }
+    {
+        self.note(Call::Ask, Answer::Seen)
+    }
+
+    // Takes a tag of the map out of it, and out of the bundles.
+    fn remove(&mut self, alloc: Global, tag: Tag) -> Result<(), AllocError>
+        requires ready { IsReady (contents_of self.old) }
+        requires present { is_some (fin.get (version_of (contents_of self.old)).labels tag) ≡ true }
+        ensures stepped { OnOk result (IsStep (contents_of self.old) (contents_of self.new) (Call.Drop tag) Removed) }
+        ensures kept { OnErr result (contents_of self.new ≡ contents_of self.old) }
+    {
+        let places = positions(&tag, self.params.rows);
+        let rows = changed(
+            alloc,
+            &self.rows,
+            self.count() + 1,
+            places.list(),
+            &tag,
+            &Change::Remove,
+        )?;
+        self.leave(tag, rows)
+    }
+
+    // Adds the entry of a call that changes nothing.
+    fn note(&mut self, call: Call, answer: Answer) -> Result<(), AllocError>
+        ensures noted { OnOk result (IsEntered (contents_of self.old) (contents_of self.new) (version_of (contents_of self.old)).labels (contents_of self.old).rows (record { call = call; answer = answer })) }
+        ensures kept { OnErr result (contents_of self.new ≡ contents_of self.old) }
+    {
+        self.journal.push(Entry { call, answer })?;
+        Ok(())
+    }
+
+    // Adds the entry of a Put, with the tag's label in the map and other rows.
+    fn enter(
+        &mut self,
+        tag: Tag,
+        label: Label,
+        rows: Vec<Vec<Shown<C>>>,
+        answer: Answer,
+    ) -> Result<(), AllocError>
+        ensures entered { OnOk result (IsEntered (contents_of self.old) (contents_of self.new) (fin.insert (version_of (contents_of self.old)).labels tag label) (kept_of_rows rows.items) (record { call = Call.Put tag label; answer = answer })) }
+        ensures kept { OnErr result (contents_of self.new ≡ contents_of self.old) }
+    {
+        self.journal.reserve(1)?;
+        self.labels.insert(tag, label)?;
+        self.rows = rows;
+        write_entry(&mut self.journal, Call::Put { tag, label }, answer);
+        Ok(())
+    }
+
+    // Adds the entry of a Drop that takes the tag out of the map, with other rows.
+    fn leave(&mut self, tag: Tag, rows: Vec<Vec<Shown<C>>>) -> Result<(), AllocError>
+        ensures left { OnOk result (IsEntered (contents_of self.old) (contents_of self.new) (fin.remove (version_of (contents_of self.old)).labels tag) (kept_of_rows rows.items) (record { call = Call.Drop tag; answer = Removed })) }
+        ensures kept { OnErr result (contents_of self.new ≡ contents_of self.old) }
+    {
+        self.journal.reserve(1)?;
+        self.labels.remove(&tag);
+        self.rows = rows;
+        write_entry(&mut self.journal, Call::Drop { tag }, Answer::Removed);
+        Ok(())
+    }
+}
