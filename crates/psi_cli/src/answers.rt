@@ -173,7 +173,7 @@ pub fn ask_reply(
     ensures bad { result ≡ Err BadInput → ask_code (parameters_of params.now) asks body.now ≡ 0 → ⊥ }
 {
     let query = query_of(alloc, params, body)?;
-    let _count = book.count();
+    let place = book.count();
     if asks >= ASKS_OF_ROUND {
         return Err(ServeFault::BadInput);
     }
@@ -181,7 +181,7 @@ pub fn ask_reply(
         Ok(placed) => {
             let body = reply_body(alloc, params, placed.answer.bundles(0), &query)?;
             Ok(Reply::Answer {
-                place: placed.place,
+                place,
                 body: Body::of(body),
             })
         }

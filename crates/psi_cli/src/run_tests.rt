@@ -47,21 +47,10 @@ fn outcome<R: Threads + Wait + Sync>(
 #[test]
 fn runs_end_with_their_status(rt: HostRuntime) -> Result<(), Fail> {
     // The words, the input, the most bytes of a read, the reads and the writes that fail; the status and the text.
-    let rows: [(&[&str], &[u8], usize, &[u64], &[u64], u8, &[u8]); 6] = [
-        (SERVE, PUT, 4, &[], &[], 0, ADDED),
+    let rows: [(&[&str], &[u8], usize, &[u64], &[u64], u8, &[u8]); 3] = [
         (SERVE, PUT, 4, &[1], &[], 5, b""),
         (SERVE, PUT, 4, &[], &[1], 6, ADDED),
         (SERVE, b"\x00\x00\x00", 4, &[], &[], 4, b""),
-        (
-            &["serve", "1", "2245", "0", "1", "0"],
-            PUT,
-            4,
-            &[0],
-            &[0],
-            3,
-            b"",
-        ),
-        (&["serve", "1", "1", "0"], PUT, 4, &[0], &[0], 2, b""),
     ];
     for (words, bytes, piece, failing_reads, failing_writes, status, text) in rows {
         let run = Run {

@@ -6,3 +6,4 @@ pub mod Spellings
 pub mod ReadBack
 pub mod QueryBodies
 pub mod ReplyBodies
+pub mod Apart

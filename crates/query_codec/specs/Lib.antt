@@ -1,3 +1,4 @@
 pub mod Ciphertexts
 pub mod Queries
 pub mod Replies
+pub mod Laws

@@ -5,12 +5,14 @@
 mod ciphertexts;
 mod fault;
 mod header;
+mod laws;
 mod lists;
 mod query;
 mod reply;
 
 pub use bfv_core::Ciphertext;
 pub use fault::CodecFault;
+pub use laws::no_body_begins_another;
 pub use lists::{Ciphertexts, Counts};
 pub use query::{read_query, write_query};
 pub use reply::{ReplyBody, read_reply, write_reply};

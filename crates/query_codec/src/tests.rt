@@ -39,6 +39,7 @@ fn queries(rt: HostRuntime) {
     let short = body(alloc, &[1, 1, 0, 1], &[], 81927).expect(&rt, "memory");
     let fault = read_query(alloc, &params, &short).err();
     assert!(rt; fault == Some(CodecFault::Length { want: 81928 }));
+    no_body_begins_another();
 }
 
 #[test]

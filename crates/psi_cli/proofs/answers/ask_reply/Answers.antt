@@ -11,7 +11,7 @@ use Rattle.psi_cli.proofs.answers.ask_reply.Goals as goal
 pub reply_body-requires-clause-within : goal.reply_body-requires-clause-within
 reply_body-requires-clause-within c =
     let shown : seen_row bundle_bins c.bundles.result.now ≡ kept_row c.args.book.now.rows 0 = c.bundles.ensures ∙ ap (λ v. kept_row v.rows 0) c.in-Ok.ensures.shown in
-    seen-within bundle_bins _ c.args.book.now (parameters_of c.args.params.now) c.args.params.now.capacity (seen_row bundle_bins c.bundles.result.now) c.count-count.ensures.consistent c.requires.same c.requires.shape shown
+    seen-within bundle_bins _ c.args.book.now (parameters_of c.args.params.now) c.args.params.now.capacity (seen_row bundle_bins c.bundles.result.now) c.count-place.ensures.consistent c.requires.same c.requires.shape shown
 
 pub reply_body-requires-clause-powers : goal.reply_body-requires-clause-powers
 reply_body-requires-clause-powers c =
@@ -21,13 +21,13 @@ pub returns-in-Ok-clause-reply : goal.returns-in-Ok-clause-reply
 unfolding step
 returns-in-Ok-clause-reply c =
     let shown : seen_row bundle_bins c.bundles.result.now ≡ kept_row c.args.book.now.rows 0 = c.bundles.ensures ∙ ap (λ v. kept_row v.rows 0) c.in-Ok.ensures.shown in
-    let body = body-is bundle_bins _ c.args.book.now (parameters_of c.args.params.now) c.args.params.now.capacity (seen_row bundle_bins c.bundles.result.now) c.count-count.ensures.consistent c.requires.same c.requires.shape shown
+    let body = body-is bundle_bins _ c.args.book.now (parameters_of c.args.params.now) c.args.params.now.capacity (seen_row bundle_bins c.bundles.result.now) c.count-place.ensures.consistent c.requires.same c.requires.shape shown
     c.deref.result.now c.args.body.now c.of.result (c.deref.ensures.value ∙ c.in_ok-query.ensures.read) (c.of.ensures ∙ c.in_ok-body-in-Ok.ensures) in
-    λ i. reply.Answer (c.in-Ok.ensures.place i) (body i)
+    λ i. reply.Answer (c.count-place.ensures.number i) (body i)
 
 pub returns-in-Ok-clause-fits : goal.returns-in-Ok-clause-fits
 returns-in-Ok-clause-fits c =
     let shown : seen_row bundle_bins c.bundles.result.now ≡ kept_row c.args.book.now.rows 0 = c.bundles.ensures ∙ ap (λ v. kept_row v.rows 0) c.in-Ok.ensures.shown in
-    let size = body-fits bundle_bins _ c.args.book.now (parameters_of c.args.params.now) c.args.params.now.capacity (seen_row bundle_bins c.bundles.result.now) c.count-count.ensures.consistent c.requires.same c.requires.shape shown
+    let size = body-fits bundle_bins _ c.args.book.now (parameters_of c.args.params.now) c.args.params.now.capacity (seen_row bundle_bins c.bundles.result.now) c.count-place.ensures.consistent c.requires.same c.requires.shape shown
     c.deref.result.now c.args.body.now c.of.result (c.deref.ensures.value ∙ c.in_ok-query.ensures.read) (c.of.ensures ∙ c.in_ok-body-in-Ok.ensures) in
     omega (arith, size)
