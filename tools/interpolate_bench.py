@@ -1,0 +1,104 @@
+#!/usr/bin/env python3
+"""Writes the crate bench_interpolate, which measures an interpolation of 64 points, and says what it must print.
+
+No part of the gate. In a copy of the repository, run this at the top, add the line
+`bench_interpolate: anyhow label_interp` to crates.txt, and `rt run` in crates/bench_interpolate. Each of its three lines
+has the first and the last coefficient and the time.
+"""
+import pathlib
+import random
+
+MODULUS = 65537
+COUNT = 64
+
+MAIN = """//! How long an interpolation of 64 points takes.
+#![tactic(auto)]
+ghost use Rattle.std.specs.Prelude.{◌<◌, IsTrue};
+ghost use Rattle.std.specs.List.{All};
+
+use label_interp::interpolate;
+use std::time::Instant;
+
+// The polynomial of degree below 64 through 64 points.
+fn through_points(out: &mut [u32; 64]) {
+    let points = [POINTS];
+    if are_below(&points) {
+        interpolate(&points, out);
+    }
+}
+
+// Whether all numbers are below the modulus.
+fn are_below(points: &[(u32, u32)]) -> bool
+    ensures { IsTrue result → All (λ p. (p.0 < 65537) × (p.1 < 65537)) points.now }
+{
+    points.iter().all(|p| p.0 < 65537 && p.1 < 65537)
+}
+
+// Interpolates once, and says how long it took.
+fn timed(rt: &HostRuntime) -> Result<(), anyhow::Error> {
+    let mut out = [0; 64];
+    let before = Instant::now(rt)?;
+    through_points(&mut out);
+    let after = Instant::now(rt)?;
+    let nanos = after.saturating_duration_since(before).as_nanos();
+    println!(rt; "{} {} in {nanos} ns", out[0], out[63])?;
+    Ok(())
+}
+
+fn main(rt: HostRuntime) -> Result<(), anyhow::Error> {
+    timed(&rt)?;
+    timed(&rt)?;
+    timed(&rt)?;
+    Ok(())
+}
+"""
+
+ANSWERS = """use Rattle.std.proofs.Common.{refl}
+use Rattle.std.specs.List.{IsDistinct}
+use Rattle.bench_interpolate.proofs.through_points.Goals as goal
+
+pub interpolate-requires-clause-places_differ : goal.interpolate-requires-clause-places_differ
+unfolding IsDistinct
+interpolate-requires-clause-places_differ c = APART
+"""
+
+
+def apart(count):
+    """That the places of `count` points differ: each from all after it, by computing."""
+    whole = "tt"
+    for after in range(count):
+        one = "tt"
+        for _ in range(after):
+            one = f"(refl, {one})"
+        whole = f"({one}, {whole})"
+    return whole
+
+
+def interpolated(points):
+    """The coefficients by Lagrange's form."""
+    sums = [0] * len(points)
+    for i, (place, value) in enumerate(points):
+        basis, below = [1], 1
+        for other, _ in points[:i] + points[i + 1:]:
+            shifted = [0] + basis
+            basis = [(a - other * b) % MODULUS for a, b in zip(shifted, basis + [0])]
+            below = below * (place - other) % MODULUS
+        scale = value * pow(below, -1, MODULUS)
+        sums = [(s + scale * b) % MODULUS for s, b in zip(sums, basis)]
+    return sums
+
+
+def main():
+    draw = random.Random(COUNT)
+    points = [(place, draw.randrange(MODULUS)) for place in draw.sample(range(MODULUS), COUNT)]
+    crate = pathlib.Path("crates/bench_interpolate")
+    for folder in ["src", "proofs/through_points"]:
+        (crate / folder).mkdir(parents=True, exist_ok=True)
+    (crate / "src/main.rt").write_text(MAIN.replace("POINTS", ", ".join(map(str, points))))
+    (crate / "proofs/through_points/Answers.antt").write_text(ANSWERS.replace("APART", apart(COUNT)))
+    wanted = interpolated(points)
+    print(f"each line must begin with {wanted[0]} {wanted[-1]}")
+
+
+if __name__ == "__main__":
+    main()
