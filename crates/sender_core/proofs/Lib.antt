@@ -4,6 +4,7 @@ pub mod SoundCells
 pub mod SoundPlaced
 pub mod SoundChanged
 pub mod SoundBins
+pub mod SoundPacked
 pub mod SoundSteps
 pub mod FirstFit
 pub mod Caches
@@ -12,3 +13,5 @@ pub mod Counting
 pub mod TagMaps
 pub mod Entering
 pub mod Consistency
+pub mod SoundRepacked
+pub mod SoundHistories

@@ -73,7 +73,7 @@ shaped-first_fit capacity stamp b m (x ∷ xs) h = chosen (accepts capacity (bin
     chosen false rest k = (h.0, k)
 
 -- one member that counts for the tag, or none
-abbrev weight : Member → List ℕ → ℕ
+abbrev pub weight : Member → List ℕ → ℕ
 weight m tag = one_if (same_tag m.tag tag)
 
 held-joined : (bins : List (List Member)) (b : ℕ) (m : Member) (tag : List ℕ) → b < length bins
@@ -83,7 +83,7 @@ held-joined bins b m tag lt =
     ∙ sum_by_push (λ (x : Member). cond (same_tag x.tag tag) 1 0) (bin_at bins b) m
 
 -- in its bin the tag stands once more
-standing-bin : (capacity stamp b : ℕ) (m : Member) (row : Row) (tag : List ℕ) → AllByRecursion (λ u. length u.bins ≡ bins_of_row) row → b < bins_of_row
+pub standing-bin : (capacity stamp b : ℕ) (m : Member) (row : Row) (tag : List ℕ) → AllByRecursion (λ u. length u.bins ≡ bins_of_row) row → b < bins_of_row
     → standing (first_fit capacity stamp b m row) b tag ≡ standing row b tag + weight m tag
 unfolding first_fit
 standing-bin capacity stamp b m [] tag h lt =
@@ -102,7 +102,7 @@ standing-bin capacity stamp b m (x ∷ xs) tag h lt =
     chosen false rest k = omega (arith, standing-cons x rest b tag, standing-cons x xs b tag, k)
 
 -- and in another bin as often as before
-standing-other_bin : (capacity stamp b c : ℕ) (m : Member) (row : Row) (tag : List ℕ) → (c ≡ b → ⊥)
+pub standing-other_bin : (capacity stamp b c : ℕ) (m : Member) (row : Row) (tag : List ℕ) → (c ≡ b → ⊥)
     → standing (first_fit capacity stamp b m row) c tag ≡ standing row c tag
 unfolding first_fit
 standing-other_bin capacity stamp b c m [] tag apart =

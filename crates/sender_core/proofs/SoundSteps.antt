@@ -16,7 +16,7 @@ use Rattle.psi_bundle.specs.declared.history.Call.TheVariants as call
 use Rattle.item_slots.specs.Tags.{bins_of_row, positions_of}
 use Rattle.item_slots.specs.PositionLaws.{positions-below}
 use Rattle.psi_bundle.specs.Bins.{same_tag, holds, without, relabelled}
-use Rattle.psi_bundle.specs.Versions.{Version, Labels, Row, row_at, placed, changed, planes_of, cells_of, empty_version, IsWithinLimits, IsSound}
+use Rattle.psi_bundle.specs.Versions.{Version, Labels, Row, row_at, placed, changed, planes_of, cells_of, empty_version, greatest_stamp, IsWithinLimits, IsSound}
 use Rattle.psi_bundle.specs.Steps.{Step, step, next, unchanged, fits, replace, add, remove}
 use Rattle.sender_core.specs.Soundness.{HasRoom, IsAllowed}
 use Rattle.sender_core.proofs.SoundLists.{some_value, no_value}
@@ -90,7 +90,7 @@ added-present v tag label room h none t l e p c =
     ]
 
 -- what stands in a bin of row r: a tag of the map with its label, at one of its positions
-abbrev BelongsAt : ℕ → Labels → ℕ → ℕ → Member → Type 0
+abbrev pub BelongsAt : ℕ → Labels → ℕ → ℕ → Member → Type 0
 BelongsAt n labels r b m = (fin.get labels m.tag ≡ Some m.label) × Contains (positions_of n m.tag) (bins_of_row * r + b)
 
 added-nothing_else : (v : Version) (tag label : List ℕ) → HasRoom v.parameters → IsSound v → fin.get v.labels tag ≡ None
@@ -227,7 +227,7 @@ sound-removed v tag h =
 
 -- ---- one step
 
-chosen-sound : (t : Bool) (a b : Step) → (t ≡ true → IsSound a.version) → (t ≡ false → IsSound b.version) → IsSound (cond t a b).version
+pub chosen-sound : (t : Bool) (a b : Step) → (t ≡ true → IsSound a.version) → (t ≡ false → IsSound b.version) → IsSound (cond t a b).version
 chosen-sound true a b h k = h refl
 chosen-sound false a b h k = k refl
 
@@ -242,6 +242,21 @@ sound-step v (call.Put tag label) room h size =
 sound-step v (call.Drop tag) room h allowed = chosen-sound (is_some (fin.get v.labels tag)) (remove v tag) _ (λ has. sound-removed v tag h) (λ lacks. sound-unchanged v h)
 sound-step v call.Ask room h allowed = sound-unchanged v h
 sound-step v (call.Repack row from) room h allowed = absurd allowed
+
+-- a step leaves the parameters
+
+chosen-parameters : (t : Bool) (a b : Step) (p : Parameters) → a.version.parameters ≡ p → b.version.parameters ≡ p → (cond t a b).version.parameters ≡ p
+chosen-parameters true a b p e f = e
+chosen-parameters false a b p e f = f
+
+pub step-parameters : (v : Version) (c : Call) → (step v c).version.parameters ≡ v.parameters
+unfolding step
+step-parameters v (call.Put tag label) =
+    chosen-parameters (is_some (fin.get v.labels tag)) (replace v tag label) (add v tag label (rows_after v tag label)) v.parameters refl
+    (chosen-parameters (fits v.parameters (rows_after v tag label)) _ _ v.parameters refl refl)
+step-parameters v (call.Drop tag) = chosen-parameters (is_some (fin.get v.labels tag)) (remove v tag) _ v.parameters refl refl
+step-parameters v call.Ask = refl
+step-parameters v (call.Repack row from) = chosen-parameters (leb (greatest_stamp (row_at v.rows row)) from) _ _ v.parameters refl refl
 
 -- ---- the beginning
 
