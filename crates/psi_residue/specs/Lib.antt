@@ -7,3 +7,5 @@ pub mod Parameters
 pub mod Residues
 pub mod RootPolynomials
 pub mod Interpolation
+pub mod Ciphertexts
+pub mod Evaluations
