@@ -1,5 +1,5 @@
 -- The versions of a labelled set, and where first fit puts a member (the rules of the set are this project's own).
-use Rattle.std.specs.Prelude.{◌≡◌, IsFalse, Some, ℕ, ◌+◌, ◌*◌, ◌/◌, ◌%◌, ◌≤◌, List, [], ◌∷◌, ◌++◌, length, map, if◌then◌else◌, slice_index_or, slice_set, replicate, max}
+use Rattle.std.specs.Prelude.{◌≡◌, IsFalse, Some, ℕ, Bool, nat_eq, ◌+◌, ◌*◌, ◌/◌, ◌%◌, ◌≤◌, List, [], ◌∷◌, ◌++◌, length, map, if◌then◌else◌, slice_index_or, slice_set, replicate, max}
 use Rattle.std.specs.Ordering.{nat_cmp}
 use Rattle.std.specs.Cmp.Lexicographic.{slice_cmp}
 use Rattle.std.specs.List.{flat_map, enumerate_from, All, AllPairs, Contains, count_by, sum, fold}
@@ -108,6 +108,14 @@ standing row b tag = sum (map (λ u. count_by (λ m. same_tag m.tag tag) (bin_at
 abbrev pub StandsIn : List Row → ℕ → ℕ → ℕ → Member → Type 0
 StandsIn rows r u b m = Contains (bin_at (bins_at (row_at rows r) u) b) m
 
+-- a label has the length of the set's labels: 10 bytes for each label unit
+abbrev pub HasLabelLength : Parameters → List ℕ → Type 0
+HasLabelLength p label = length label ≡ 10 * p.units
+
+-- the test of it
+abbrev pub has_label_length : Parameters → List ℕ → Bool
+has_label_length p label = nat_eq (length label) (10 * p.units)
+
 -- a version in which the bundles hold the tags of the map at their positions, and nothing else
 pub record IsSound (v : Version) : Type 0 where
   pub each_row : length v.rows ≡ v.parameters.rows
@@ -118,5 +126,5 @@ pub record IsSound (v : Version) : Type 0 where
   pub nothing_else : (r u b : ℕ) (m : Member) → StandsIn v.rows r u b m → (fin.get v.labels m.tag ≡ Some m.label) × Contains (positions_of v.parameters.rows m.tag) (bins_of_row * r + b)
   pub within_capacity : (r u b : ℕ) → length (bin_at (bins_at (row_at v.rows r) u) b) ≤ v.parameters.capacity
   pub apart : (r u b : ℕ) → AllPairs (λ m other. IsFalse (shares_slot m.tag other.tag)) (bin_at (bins_at (row_at v.rows r) u) b)
-  pub labelled : (tag label : List ℕ) → fin.get v.labels tag ≡ Some label → length label ≡ 10 * v.parameters.units
+  pub labelled : (tag label : List ℕ) → fin.get v.labels tag ≡ Some label → HasLabelLength v.parameters label
   pub limits : IsWithinLimits v.parameters v.rows
