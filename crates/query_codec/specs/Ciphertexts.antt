@@ -1,15 +1,19 @@
 -- Ciphertexts as bytes, one after another. A ciphertext is four lists of 4096 residues of 5 bytes, the highest byte first: c0 modulo
 -- the first and the second modulus, then c1 modulo these (the layout is this project's own).
-use Rattle.std.specs.Prelude.{◌≡◌, ℕ, ◌+◌, ◌*◌, ◌<◌, nat_lt, not, List, length, map, drop, Option}
+use Rattle.std.specs.Prelude.{◌≡◌, ℕ, ◌+◌, ◌*◌, ◌/◌, ◌<◌, nat_lt, not, List, length, map, drop, Option}
 use Rattle.std.specs.List.{find, flat_map, range_with_len}
-use Rattle.byteorder.specs.Endian.{big_number}
+use Rattle.byteorder.specs.Endian.{big_number, big_bytes}
 use Rattle.psi_residue.specs.Numbers.{ring_degree}
 use Rattle.psi_residue.specs.Sums.{table}
-use Rattle.psi_bundle.specs.Bodies.{modulus_at, residue_bytes}
+use Rattle.psi_residue.specs.Ciphertexts.{list_modulus}
 
 -- the bytes of a ciphertext
 abbrev pub ciphertext_size : ℕ
 ciphertext_size = 5 * (4 * ring_degree)
+
+-- the modulus of residue number i
+abbrev pub modulus_at : ℕ → ℕ
+modulus_at i = list_modulus (i / ring_degree)
 
 -- residue number i of the bytes
 unfoldable pub residue_in : List ℕ → ℕ → ℕ
@@ -35,6 +39,10 @@ wrong_residue bytes n = find (λ i. not (nat_lt (residue_in bytes i) (modulus_at
 pub record AreCiphertexts (bytes : List ℕ) (n : ℕ) : Type 0 where
   pub size : length bytes ≡ ciphertext_size * n
   pub fit : (i : ℕ) → i < 4 * ring_degree * n → residue_in bytes i < modulus_at i
+
+-- a list of residues as bytes
+abbrev pub residue_bytes : List ℕ → List ℕ
+residue_bytes residues = flat_map (big_bytes 5) residues
 
 -- the bytes of a ciphertext, and of ciphertexts
 unfoldable pub ciphertext_bytes : List (List ℕ) → List ℕ

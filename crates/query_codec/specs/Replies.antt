@@ -7,10 +7,12 @@ use Rattle.std.specs.Cmp.Lexicographic.{pointwise}
 use Rattle.byteorder.specs.Endian.{big_number, big_bytes}
 use Rattle.psi_residue.specs.Numbers.{ring_degree}
 use Rattle.psi_residue.specs.Parameters.{Parameters, parameter_bytes}
-use Rattle.psi_bundle.specs.Bodies.{modulus_at}
+use Rattle.psi_bundle.specs.Planes.{planes_of_bundle}
+use Rattle.psi_bundle.specs.Versions.{Row}
+use Rattle.psi_bundle.specs.Bodies.{bundle_counts, evaluated_rows}
 use Rattle.query_codec.specs.declared.fault.CodecFault.{CodecFault}
 use Rattle.query_codec.specs.declared.fault.CodecFault.TheVariants as faults
-use Rattle.query_codec.specs.Ciphertexts.{ciphertext_size, ciphertexts_in, ciphertexts_bytes, residue_in, wrong_residue}
+use Rattle.query_codec.specs.Ciphertexts.{ciphertext_size, ciphertexts_in, ciphertexts_bytes, modulus_at, residue_in, wrong_residue}
 
 -- the number of bundles of row r
 unfoldable pub row_count : List ℕ → ℕ → ℕ
@@ -20,9 +22,9 @@ row_count body r = big_number 2 (drop (8 + 2 * r) body)
 unfoldable pub reply_counts : Parameters → List ℕ → List ℕ
 reply_counts p body = map (row_count body) (range_with_len 0 p.rows)
 
--- the ciphertexts of a reply with these numbers of bundles: one for each plane of each bundle, and a plane is the root plane or that of a label unit
+-- the ciphertexts of a reply with these numbers of bundles: one for each plane of each bundle
 abbrev pub planes_of : Parameters → List ℕ → ℕ
-planes_of p counts = (1 + p.units) * sum counts
+planes_of p counts = planes_of_bundle p * sum counts
 
 -- the bytes before the ciphertexts
 abbrev pub reply_head : Parameters → ℕ
@@ -54,3 +56,7 @@ reply_fault p body =
 -- the body of a reply with these numbers of bundles and these ciphertexts
 unfoldable pub reply_bytes : Parameters → List ℕ → List (List (List ℕ)) → List ℕ
 reply_bytes p counts cts = parameter_bytes p ++ flat_map (big_bytes 2) counts ++ ciphertexts_bytes cts
+
+-- The body of the reply to a query: what these rows of bundles answer to its ciphertexts.
+unfoldable pub reply_body : Parameters → List Row → (query : List (List (List ℕ))) → List ℕ
+reply_body p rows query = reply_bytes p (bundle_counts rows) (evaluated_rows p rows query)
