@@ -1,5 +1,5 @@
 -- Frames as bytes (the format is this project's own). Every number is big-endian.
-use Rattle.std.specs.Prelude.{◌≡◌, ℕ, ◌+◌, ◌≤◌, ◌<◌, ◌^◌, Bool, ◌&&◌, not, nat_eq, nat_lt, nat_le, List, [], ◌++◌, length, slice_index, Option, Some, None, if◌then◌else◌, IsTrue}
+use Rattle.std.specs.Prelude.{◌≡◌, ℕ, ◌+◌, ◌≤◌, ◌<◌, ◌^◌, Bool, ◌&&◌, not, nat_eq, nat_lt, nat_le, List, [], ◌++◌, length, take, slice_index, Option, Some, None, if◌then◌else◌, IsTrue}
 use Rattle.std.specs.List.{All, flat_map}
 use Rattle.byteorder.specs.Endian.{big_number, big_bytes}
 use Rattle.psi_frames.specs.declared.frame.Frame.{Frame}
@@ -50,14 +50,28 @@ pub record IsSpellable (f : Frame) : Type 0 where
   pub body : All (λ b. b < 2 ^ 8) f.body
   pub length : head_bytes + length f.body ≤ greatest_length
 
--- the kinds of the table of requests; a Go frame has no body
-abbrev pub is_request_kind : ℕ → Bool
-is_request_kind kind = nat_le put_kind kind && nat_le kind go_kind
+-- A table of frames: the least length word, and the kinds.
+pub record Table : Type 0 where
+  pub least : ℕ
+  pub has_kind : ℕ → Bool
 
--- a frame of the table
-pub record IsFrame (f : Frame) : Type 0 where
+-- a kind from the first to the last
+abbrev pub is_kind_between : (first last : ℕ) → ℕ → Bool
+is_kind_between first last kind = nat_le first kind && nat_le kind last
+
+-- requests, and Go frames, which end a round
+abbrev pub request_table : Table
+request_table = record { least = head_bytes; has_kind = is_kind_between put_kind go_kind }
+
+-- replies
+abbrev pub reply_table : Table
+reply_table = record { least = head_bytes + 1; has_kind = is_kind_between 129 137 }
+
+-- a frame of a table; a Go frame has no body
+pub record IsFrame (table : Table) (f : Frame) : Type 0 where
   pub spellable : IsSpellable f
-  pub kind : IsTrue (is_request_kind f.kind)
+  pub least : table.least ≤ head_bytes + length f.body
+  pub kind : IsTrue (table.has_kind f.kind)
   pub go : f.kind ≡ go_kind → f.body ≡ []
 
 -- why bytes begin no whole frame
@@ -66,31 +80,36 @@ pub data Fault : Type 0 where
   Length : (n : ℕ) → Fault
   Kind : (k : ℕ) → Fault
 
--- a length word that a frame may have
-abbrev pub is_frame_length : ℕ → Bool
-is_frame_length n = nat_le head_bytes n && nat_le n greatest_length
+-- a length word that a frame of the table may have
+abbrev pub is_frame_length : Table → ℕ → Bool
+is_frame_length table n = nat_le table.least n && nat_le n greatest_length
 
 -- What keeps a whole frame from the front of some bytes: none where there are no bytes, or where a whole frame begins them. The
 -- length word comes first, then the kind.
-unfoldable pub front_fault : List ℕ → Option Fault
-front_fault bytes =
+unfoldable pub front_fault : Table → List ℕ → Option Fault
+front_fault table bytes =
     let n = big_number 4 bytes in
     let kind = slice_index bytes 4 in
     if nat_eq (length bytes) 0 then None
     else (if nat_lt (length bytes) 4 then Some Short
-    else (if not (is_frame_length n) then Some (Length n)
+    else (if not (is_frame_length table n) then Some (Length n)
     else (if nat_lt (length bytes) 5 then Some Short
-    else (if not (is_request_kind kind) then Some (Kind kind)
+    else (if not (table.has_kind kind) then Some (Kind kind)
     else (if nat_eq kind go_kind && not (nat_eq n head_bytes) then Some (Length n)
     else (if nat_lt (length bytes) (4 + n) then Some Short else None))))))
 
--- The bytes are these whole frames, and then a rest that is nothing, or that begins no whole frame, for this fault. Of an input
--- the first 2^40 bytes are looked at.
-pub record IsCut (bytes : List ℕ) (frames : List Frame) (rest : List ℕ) (fault : Option Fault) : Type 0 where
-  pub whole : bytes ≡ frames_bytes frames ++ rest
-  pub each : All IsFrame frames
-  pub none : fault ≡ None → rest ≡ []
-  pub first : (f : Fault) → fault ≡ Some f → front_fault rest ≡ Some f
+-- the bytes of an input that are looked at; more than these are a bad input
+abbrev pub most_bytes : ℕ
+most_bytes = 2 ^ 40
+
+-- The whole frames of an input, among the first of its bytes, and what keeps the rest from beginning one more; nothing where there
+-- is no rest.
+pub record AreWholeFrames (table : Table) (bytes : List ℕ) (frames : List Frame) (fault : Option Fault) : Type 0 where
+  pub rest : List ℕ
+  pub whole : take most_bytes bytes ≡ frames_bytes frames ++ rest
+  pub each : All (IsFrame table) frames
+  pub first : front_fault table rest ≡ fault
+  pub ended : fault ≡ None → rest ≡ []
 
 -- a reply frame as bytes
 abbrev pub reply_bytes : (session number : ℕ) → Reply → List ℕ

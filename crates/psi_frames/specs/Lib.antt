@@ -2,7 +2,6 @@ pub mod Frames
 pub mod Requests
 pub mod Rounds
 pub mod Served
-pub mod Inputs
-pub mod FrameLaws
 pub mod OneLane
-pub mod LaneLaws
+pub mod Inputs
+pub mod FrontFrames

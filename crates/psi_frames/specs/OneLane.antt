@@ -1,17 +1,20 @@
 -- The one-thread sender: it takes the requests of an input in their order, each on the version that the one before left.
-use Rattle.std.specs.Prelude.{ℕ, List, [], ◌∷◌}
+use Rattle.std.specs.Prelude.{◌≡◌, ℕ, ◌≤◌, ◌<◌, nat_lt, List, [], ◌∷◌, ◌++◌, length, Option, None, Some, if◌then◌else◌}
+use Rattle.std.specs.List.{All}
 use Rattle.psi_residue.specs.Parameters.{Parameters}
 use Rattle.psi_bundle.specs.declared.history.Answer.{Answer}
 use Rattle.psi_bundle.specs.declared.history.Answer.TheVariants as answer
+use Rattle.psi_bundle.specs.declared.history.Call.{Call}
 use Rattle.psi_bundle.specs.declared.history.Entry.{Entry}
 use Rattle.psi_bundle.specs.Versions.{Version}
 use Rattle.psi_bundle.specs.Steps.{step}
-use Rattle.psi_bundle.specs.Bodies.{reply_body}
+use Rattle.psi_bundle.specs.Histories.{IsLegal}
+use Rattle.query_codec.specs.Replies.{reply_body}
 use Rattle.psi_frames.specs.declared.reply.Reply.{Reply}
 use Rattle.psi_frames.specs.declared.reply.Reply.TheVariants as reply
-use Rattle.psi_frames.specs.declared.frame.Frame.{Frame}
-use Rattle.psi_frames.specs.Requests.{call_of}
-use Rattle.psi_frames.specs.Served.{Sent}
+use Rattle.psi_frames.specs.declared.request.Request.{Request}
+use Rattle.psi_frames.specs.Requests.{call_of, code_of, query_of, session_of, number_of, journal_full}
+use Rattle.psi_frames.specs.Served.{Sent, IsOneLaneText, journal_limit, requests_of}
 
 -- the reply that tells an answer at a place; a query's body is told with Seen, and a Repack's `from` is its place
 abbrev pub reply_of : Answer → (place : ℕ) → (body : List ℕ) → Reply
@@ -24,27 +27,59 @@ reply_of answer.Seen place body = reply.Answer place body
 reply_of (answer.Done before after) place body = reply.Repacked place place before after
 reply_of (answer.Moved stamp) place body = reply.Moved place place stamp
 
--- the entry that a request without a code makes on a version
-abbrev pub lane_entry : Version → Frame → Entry
-lane_entry v f = record { call = call_of f v.count; answer = (step v (call_of f v.count)).answer }
+-- the call that a request makes on a version, a Repack from the version's own count; none where the request has a code, or the journal is full
+unfoldable pub call_on : Version → Request → Option Call
+call_on v r = if nat_lt v.count journal_limit then call_of r v.count else None
+
+-- the code of a refusal: the request's own, or else that of a full journal
+abbrev pub refusal_code : Option ℕ → ℕ
+refusal_code (Some code) = code
+refusal_code None = journal_full
+
+-- the reply to a request that makes this call, or none
+abbrev pub reply_by : Parameters → Version → Request → Option Call → Reply
+reply_by p v r (Some c) = reply_of (step v c).answer v.count (reply_body p v.rows (query_of r))
+reply_by p v r None = reply.Refused (refusal_code (code_of r))
+
+-- the version after it
+abbrev pub version_by : Version → Option Call → Version
+version_by v (Some c) = (step v c).version
+version_by v None = v
+
+-- the entry that it makes
+abbrev pub entries_by : Version → Option Call → List Entry
+entries_by v (Some c) = record { call = c; answer = (step v c).answer } ∷ []
+entries_by v None = []
+
+-- the reply to a request on a version
+abbrev pub lane_reply : Parameters → Version → Request → Reply
+lane_reply p v r = reply_by p v r (call_on v r)
 
 -- the version that it leaves
-abbrev pub lane_next : Version → Frame → Version
-lane_next v f = (step v (call_of f v.count)).version
+abbrev pub lane_next : Version → Request → Version
+lane_next v r = version_by v (call_on v r)
 
--- its reply
-abbrev pub lane_reply : Parameters → Version → Frame → Reply
-lane_reply p v f = reply_of (step v (call_of f v.count)).answer v.count (reply_body p v.rows f.body)
+-- the reply as it is sent
+abbrev pub lane_sent : Parameters → Version → Request → Sent
+lane_sent p v r = record { session = session_of r; number = number_of r; reply = lane_reply p v r }
 
-abbrev pub lane_sent : Parameters → Version → Frame → Sent
-lane_sent p v f = record { session = f.session; number = f.number; reply = lane_reply p v f }
-
--- the replies to requests without a code, in order
-unfoldable pub lane_replies : Parameters → Version → List Frame → List Sent
+-- the replies to requests, in order
+unfoldable pub lane_replies : Parameters → Version → List Request → List Sent
 lane_replies p v [] = []
-lane_replies p v (f ∷ fs) = lane_sent p v f ∷ lane_replies p (lane_next v f) fs
+lane_replies p v (r ∷ rs) = lane_sent p v r ∷ lane_replies p (lane_next v r) rs
 
 -- the entries that they make
-unfoldable pub lane_history : Version → List Frame → List Entry
+unfoldable pub lane_history : Version → List Request → List Entry
 lane_history v [] = []
-lane_history v (f ∷ fs) = lane_entry v f ∷ lane_history (lane_next v f) fs
+lane_history v (r ∷ rs) = entries_by v (call_on v r) ++ lane_history (lane_next v r) rs
+
+-- a code that the bytes of a request may have
+abbrev pub HasByteCode : Request → Type 0
+HasByteCode r = (code : ℕ) → code_of r ≡ Some code → code < journal_full
+
+-- From each start without entries, behind each legal history that a journal has room for, exactly one text is that of one lane.
+abbrev pub OneTextIsOfOneLane : Type 0
+OneTextIsOfOneLane =
+    (p : Parameters) (start : Version) (given : List Entry) (rounds : List (List Request))
+    → start.count ≡ 0 → IsLegal start given → length given ≤ journal_limit → All HasByteCode (requests_of rounds)
+    → (text : List ℕ) × IsOneLaneText p start given rounds text × ((other : List ℕ) → IsOneLaneText p start given rounds other → other ≡ text)

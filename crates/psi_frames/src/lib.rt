@@ -9,6 +9,7 @@ mod frame;
 mod number;
 mod reading;
 mod reply;
+mod request;
 mod rounds;
 mod writing;
 
@@ -16,5 +17,6 @@ pub use crate::body::Body;
 pub use crate::frame::{ASK, DROP, Frame, PUT};
 pub use crate::reading::{FramesFault, whole_frames};
 pub use crate::reply::Reply;
+pub use crate::request::{Request, read_request};
 pub use crate::rounds::is_one_round;
 pub use crate::writing::{append_answer, write_answer};

@@ -11,6 +11,7 @@ use Rattle.byteorder.specs.Endian.{big_from, big_number, big_bytes}
 use Rattle.byteorder.specs.Numbers.{big_from-cons, big_from-lt, big_number-reads_back}
 use Rattle.psi_frames.specs.declared.frame.Frame.{Frame}
 use Rattle.psi_frames.specs.Frames.{spelled, frame_bytes, frames_bytes, IsSpellable, head_bytes, greatest_length}
+use Rattle.psi_frames.specs.FrontFrames.{body_length, front_frame, behind_front}
 
 -- a byte of a number, by its place
 byte_at-pow : (k x : ℕ) → byte_at k x ≡ x / 256 ^ k % 256
@@ -61,18 +62,6 @@ big_bytes-big_number (suc n) (x ∷ xs) long bytes =
     let rest : bytes_high_first n (x * 256 ^ n + r) ≡ bytes_high_first n r = ap (λ (k : ℕ). bytes_high_first n (x * 256 ^ k + r)) (sym none) ∙ bytes_high_first-above n 0 x r in
     let ih = big_bytes-big_number n xs (omega arith) (λ i. bytes (suc i)) in
     rw (moved, top, rest, ih) refl
-
--- the length word of the frame that begins these bytes, without what it counts before the body
-abbrev pub body_length : List ℕ → ℕ
-body_length bytes = big_number 4 bytes - head_bytes
-
--- the frame that the bytes begin with: its kind stands at place 4, its session at 5, its number at 7 and its body at 11
-unfoldable pub front_frame : List ℕ → Frame
-front_frame bytes = record { kind = slice_index bytes 4; session = big_number 2 (drop 5 bytes); number = big_number 4 (drop 7 bytes); body = take (body_length bytes) (drop 11 bytes) }
-
--- what stands behind that frame
-unfoldable pub behind_front : List ℕ → List ℕ
-behind_front bytes = drop (body_length bytes) (drop 11 bytes)
 
 -- a frame's length word is read back
 pub big_number-frame : (f : Frame) (x : List ℕ) → IsSpellable f → big_number 4 (frame_bytes f ++ x) ≡ head_bytes + length f.body
