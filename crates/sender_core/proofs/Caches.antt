@@ -21,9 +21,6 @@ module _ {C : Type 0} (stamp : ℕ) where
   same_after a b c (inr p) (inl q) = inr (ap (λ (k : Kept C). k.stamp) q ∙ p.0, ap (λ (k : Kept C). k.cache) q ∙ p.1)
   same_after a b c p (inr q) = inr q
 
-  pub row-after : (a b c : List (Kept C)) → RowKeepsCaches stamp a b → RowKeepsCaches stamp b c → RowKeepsCaches stamp a c
-  row-after a b c p q u = same_after (kept_at a u) (kept_at b u) (kept_at c u) (p u) (q u)
-
   pub rows-after : (a b c : List (List (Kept C))) → KeepCaches stamp a b → KeepCaches stamp b c → KeepCaches stamp a c
   rows-after a b c p q r u = same_after (kept_at (kept_row a r) u) (kept_at (kept_row b r) u) (kept_at (kept_row c r) u) (p r u) (q r u)
 

@@ -13,12 +13,13 @@ use Rattle.psi_bundle.specs.declared.history.Answer.{Answer}
 use Rattle.psi_bundle.specs.declared.history.Entry.{Entry}
 use Rattle.psi_bundle.specs.Versions.{Version, Row, IsSound, empty_version, planes_of}
 use Rattle.psi_bundle.specs.Steps.{step}
-use Rattle.psi_bundle.specs.Histories.{after, replay, IsLegal}
+use Rattle.psi_bundle.specs.Histories.{after, replay, IsLegal, IsFitting}
 use Rattle.noise_ledger.specs.Verdicts.{ArePassed}
-use Rattle.sender_core.specs.Kept.{Kept, Contents, most_entries, row_of, rows_of, version_of, start_of, empty_contents, kept_row, kept_at, IsSameOrBare, IsStep, IsReady, IsStart, IsConsistent}
+use Rattle.sender_core.specs.Kept.{Kept, Contents, most_entries, row_of, rows_of, version_of, start_of, empty_contents, kept_row, kept_at, IsSameOrBare, IsAsBefore, IsStep, IsReady, IsStart, IsConsistent}
 use Rattle.sender_core.specs.Sights.{with_cached_bins}
-use Rattle.sender_core.specs.Soundness.{HasRoom, IsAllowed}
-use Rattle.sender_core.proofs.SoundSteps.{sound-step, sound-empty}
+use Rattle.sender_core.specs.Soundness.{HasRoom}
+use Rattle.sender_core.proofs.SoundSteps.{sound-empty}
+use Rattle.sender_core.proofs.SoundHistories.{sound-step}
 use Rattle.sender_core.proofs.Counting.{size-kept}
 
 -- one entry more is legal where its answer is the step's
@@ -40,9 +41,9 @@ module _ {C : Type 0} (contents : C → List (List Member)) (is_under : C → Li
   still_suits p stamp old new h (inr bare) = subst (λ (o : Option C). IfSome o (λ c. (contents c ≡ new.bins) × is_under c (parameter_bytes p))) (sym bare.1) tt
 
   -- after one step
-  pub consistent-after : (old new : Contents C) (c : Call) (answer : Answer) → IsConsistent contents is_under old → length old.journal < most_entries → IsAllowed (version_of old) c
+  pub consistent-after : (old new : Contents C) (c : Call) (answer : Answer) → IsConsistent contents is_under old → length old.journal < most_entries → IsFitting old.parameters c
       → IsStep old new c answer → IsConsistent contents is_under new
-  consistent-after old new c answer was free allowed h =
+  consistent-after old new c answer was free fit h =
       let v = version_of old in
       let e : Entry = record { call = c; answer = answer } in
       let same = h.same_parameters in
@@ -55,7 +56,7 @@ module _ {C : Type 0} (contents : C → List (List Member)) (is_under : C → Li
       ap (replay (start_of old)) h.journal ∙ fold-append after (start_of old) old.journal (e ∷ []) ∙ ap (λ (w : Version). after w e) was.replayed ∙ sym h.version in
       record {
         passed = subst ArePassed (sym same) was.passed;
-        sound = subst IsSound (sym h.version) (sound-step v c room was.sound allowed);
+        sound = subst IsSound (sym h.version) (sound-step v c room was.sound fit);
         begun = subst IsStart start was.begun;
         few = let more : length new.journal ≡ length old.journal + 1 = ap length h.journal ∙ length-append old.journal (e ∷ []) in omega (arith, more, free);
         legal = subst (λ (w : Version). IsLegal w new.journal) start legal;
@@ -64,16 +65,23 @@ module _ {C : Type 0} (contents : C → List (List Member)) (is_under : C → Li
             (subst (λ (p : Parameters). Suits p (kept_at (kept_row old.rows r) u)) (sym same) (was.caches r u)) (h.caches r u);
       }
 
+  -- after a call that was refused
+  consistent-before : (old new : Contents C) → IsConsistent contents is_under old → IsAsBefore old new → IsConsistent contents is_under new
+  consistent-before old new was kept =
+      let same : IsConsistent contents is_under (record old { room = new.room }) =
+      record { passed = was.passed; sound = was.sound; begun = was.begun; few = was.few; legal = was.legal; replayed = was.replayed; caches = was.caches } in
+      subst (IsConsistent contents is_under) (sym kept) same
+
   -- after one call, whether it was taken or refused
   pub consistent-either : {T E : Type 0} (r : Result T E) (old new : Contents C) (c : Call) (answer : T → Answer) → IsConsistent contents is_under old → length old.journal < most_entries
-      → IsAllowed (version_of old) c → IfOk r (λ t. IsStep old new c (answer t)) → OnErr r (new ≡ old) → IsConsistent contents is_under new
-  consistent-either (Ok t) old new c answer was free allowed h kept = consistent-after old new c (answer t) was free allowed h
-  consistent-either (Err e) old new c answer was free allowed h kept = subst (IsConsistent contents is_under) (sym kept) was
+      → IsFitting old.parameters c → IfOk r (λ t. IsStep old new c (answer t)) → OnErr r (IsAsBefore old new) → IsConsistent contents is_under new
+  consistent-either (Ok t) old new c answer was free fit h kept = consistent-after old new c (answer t) was free fit h
+  consistent-either (Err e) old new c answer was free fit h kept = consistent-before old new was kept
 
   pub consistent-done : {E : Type 0} (r : Result (Unit {0}) E) (old new : Contents C) (c : Call) (answer : Answer) → IsConsistent contents is_under old → length old.journal < most_entries
-      → IsAllowed (version_of old) c → OnOk r (IsStep old new c answer) → OnErr r (new ≡ old) → IsConsistent contents is_under new
-  consistent-done (Ok t) old new c answer was free allowed h kept = consistent-after old new c answer was free allowed h
-  consistent-done (Err e) old new c answer was free allowed h kept = subst (IsConsistent contents is_under) (sym kept) was
+      → IsFitting old.parameters c → OnOk r (IsStep old new c answer) → OnErr r (IsAsBefore old new) → IsConsistent contents is_under new
+  consistent-done (Ok t) old new c answer was free fit h kept = consistent-after old new c answer was free fit h
+  consistent-done (Err e) old new c answer was free fit h kept = consistent-before old new was kept
 
   -- a book is ready for a step
   pub ready : (h : Contents C) → IsConsistent contents is_under h → IsReady h

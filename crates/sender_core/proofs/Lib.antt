@@ -15,3 +15,4 @@ pub mod Entering
 pub mod Consistency
 pub mod SoundRepacked
 pub mod SoundHistories
+pub mod HistoryBytes

@@ -16,9 +16,9 @@ use Rattle.psi_bundle.specs.declared.history.Call.TheVariants as call
 use Rattle.item_slots.specs.Tags.{bins_of_row, positions_of}
 use Rattle.item_slots.specs.PositionLaws.{positions-below}
 use Rattle.psi_bundle.specs.Bins.{same_tag, holds, without, relabelled}
-use Rattle.psi_bundle.specs.Versions.{Version, Labels, Row, row_at, placed, changed, planes_of, cells_of, empty_version, greatest_stamp, IsWithinLimits, IsSound}
+use Rattle.psi_bundle.specs.Versions.{Version, Labels, Row, row_at, placed, changed, planes_of, cells_of, empty_version, greatest_stamp, IsWithinLimits, HasLabelLength, IsSound}
 use Rattle.psi_bundle.specs.Steps.{Step, step, next, unchanged, fits, replace, add, remove}
-use Rattle.sender_core.specs.Soundness.{HasRoom, IsAllowed}
+use Rattle.sender_core.specs.Soundness.{HasRoom}
 use Rattle.sender_core.proofs.SoundLists.{some_value, no_value}
 use Rattle.sender_core.proofs.SoundPositions.{IsIn, IsIn-from_Contains, Contains-from_IsIn, positions-rise}
 use Rattle.sender_core.proofs.SoundCells.{cell, nothing, AreShaped, held, held-none, standing-same, standing-none, same_tag-Decides, same_tag-apart, get-insert_same, get-insert_other, get-remove_same, get-remove_other}
@@ -107,15 +107,15 @@ added-nothing_else v tag label room h none =
     let old = h.nothing_else r u b m c in
     (get-insert_other v.labels tag label m.tag (absent v tag h none m m.label old.0) ∙ old.0, old.1))
 
-inserted-labelled : (v : Version) (tag label : List ℕ) → IsSound v → length label ≡ 10 * v.parameters.units
-    → (t l : List ℕ) → fin.get (fin.insert v.labels tag label) t ≡ Some l → length l ≡ 10 * v.parameters.units
+inserted-labelled : (v : Version) (tag label : List ℕ) → IsSound v → HasLabelLength v.parameters label
+    → (t l : List ℕ) → fin.get (fin.insert v.labels tag label) t ≡ Some l → HasLabelLength v.parameters l
 inserted-labelled v tag label h size t l e =
     elim (cases_tag t tag) [
       | inl same ↦ ap length (sym (same_Some label l (sym (get-insert_same v.labels tag label t same) ∙ e))) ∙ size
       | inr other ↦ h.labelled t l (sym (get-insert_other v.labels tag label t other) ∙ e)
     ]
 
-pub sound-added : (v : Version) (tag label : List ℕ) → HasRoom v.parameters → IsSound v → fin.get v.labels tag ≡ None → length label ≡ 10 * v.parameters.units
+pub sound-added : (v : Version) (tag label : List ℕ) → HasRoom v.parameters → IsSound v → fin.get v.labels tag ≡ None → HasLabelLength v.parameters label
     → IsWithinLimits v.parameters (rows_after v tag label) → IsSound (next v (fin.insert v.labels tag label) (rows_after v tag label))
 sound-added v tag label room h none size within =
     let capacity = v.parameters.capacity in
@@ -146,7 +146,7 @@ pub record Keeps (v : Version) (change : List Member → List Member) (labels : 
   pub still_apart : (bin : List Member) → AreApart bin → AreApart (change bin)
   pub was_there : (tag label : List ℕ) → fin.get labels tag ≡ Some label → (old : List ℕ) × (fin.get v.labels tag ≡ Some old) × ((bin : List Member) → held (change bin) tag ≡ held bin tag)
   pub belongs : (r b : ℕ) (bin : List Member) → ((m : Member) → Contains bin m → BelongsAt v.parameters.rows v.labels r b m) → (m : Member) → Contains (change bin) m → BelongsAt v.parameters.rows labels r b m
-  pub labelled : (tag label : List ℕ) → fin.get labels tag ≡ Some label → length label ≡ 10 * v.parameters.units
+  pub labelled : (tag label : List ℕ) → fin.get labels tag ≡ Some label → HasLabelLength v.parameters label
 
 length-row_at : (rows : List Row) (r : ℕ) → get_or (map (λ row. length row) rows) r 0 ≡ length (row_at rows r)
 length-row_at [] r = refl
@@ -188,7 +188,7 @@ sound-changed v change tag labels h spares keeps =
 
 -- ---- a tag gets another label, or leaves
 
-pub sound-replaced : (v : Version) (tag label old : List ℕ) → IsSound v → fin.get v.labels tag ≡ Some old → length label ≡ 10 * v.parameters.units → IsSound (replace v tag label).version
+pub sound-replaced : (v : Version) (tag label old : List ℕ) → IsSound v → fin.get v.labels tag ≡ Some old → HasLabelLength v.parameters label → IsSound (replace v tag label).version
 sound-replaced v tag label old h is size =
     sound-changed v (λ bin. relabelled bin tag label) tag (fin.insert v.labels tag label) h (relabelled-spares tag label) (record {
       smaller = λ bin. omega (arith, length-relabelled bin tag label);
@@ -225,23 +225,27 @@ sound-removed v tag h =
     gone : (t l : List ℕ) → fin.get (fin.remove v.labels tag) t ≡ Some l → t ≡ tag → ⊥
     gone t l e same = none-some l (sym (get-remove_same v.labels tag t same) ∙ e)
 
--- ---- one step
+-- ---- the steps of three calls
 
 pub chosen-sound : (t : Bool) (a b : Step) → (t ≡ true → IsSound a.version) → (t ≡ false → IsSound b.version) → IsSound (cond t a b).version
 chosen-sound true a b h k = h refl
 chosen-sound false a b h k = k refl
 
--- each step of a sound set leaves a sound set
-pub sound-step : (v : Version) (c : Call) → HasRoom v.parameters → IsSound v → IsAllowed v c → IsSound (step v c).version
+pub sound-put : (v : Version) (tag label : List ℕ) → HasRoom v.parameters → IsSound v → HasLabelLength v.parameters label → IsSound (step v (call.Put tag label)).version
 unfolding step
-sound-step v (call.Put tag label) room h size =
+sound-put v tag label room h size =
     let rows = rows_after v tag label in
     chosen-sound (is_some (fin.get v.labels tag)) (replace v tag label) (add v tag label rows)
     (λ has. let old = some_value (fin.get v.labels tag) has in sound-replaced v tag label old.0 h old.1 size)
     (λ lacks. chosen-sound (fits v.parameters rows) _ _ (λ within. sound-added v tag label room h (no_value (fin.get v.labels tag) lacks) size (fits-tells v.parameters rows within)) (λ full. sound-unchanged v h))
-sound-step v (call.Drop tag) room h allowed = chosen-sound (is_some (fin.get v.labels tag)) (remove v tag) _ (λ has. sound-removed v tag h) (λ lacks. sound-unchanged v h)
-sound-step v call.Ask room h allowed = sound-unchanged v h
-sound-step v (call.Repack row from) room h allowed = absurd allowed
+
+pub sound-drop : (v : Version) (tag : List ℕ) → IsSound v → IsSound (step v (call.Drop tag)).version
+unfolding step
+sound-drop v tag h = chosen-sound (is_some (fin.get v.labels tag)) (remove v tag) _ (λ has. sound-removed v tag h) (λ lacks. sound-unchanged v h)
+
+pub sound-ask : (v : Version) → IsSound v → IsSound (step v call.Ask).version
+unfolding step
+sound-ask v h = sound-unchanged v h
 
 -- a step leaves the parameters
 

@@ -23,13 +23,14 @@ pub record Start : Type 0 where
   pub labels : List (List ℕ × List ℕ)
   pub rows : List Row
 
--- a book's contents: the parameters, the start, the labels by tag, the rows of bundles and the journal
+-- a book's contents: the parameters, the start, the labels by tag, the rows of bundles, the journal, and the room for entries behind it
 pub record Contents (C : Type 0) : Type 0 where
   pub parameters : Parameters
   pub start : Start
   pub labels : List (List ℕ × List ℕ)
   pub rows : List (List (Kept C))
   pub journal : List Entry
+  pub room : ℕ
 
 -- all bundles as they stood when an entry was made, and the entry's place
 pub record View (C : Type 0) : Type 0 where
@@ -77,7 +78,11 @@ module _ {C : Type 0} where
 
   -- the contents of a new book: it starts from the empty version
   abbrev pub empty_contents : Parameters → Contents C
-  empty_contents p = record { parameters = p; start = empty_start p; labels = []; rows = replicate p.rows []; journal = [] }
+  empty_contents p = record { parameters = p; start = empty_start p; labels = []; rows = replicate p.rows []; journal = []; room = 0 }
+
+  -- the same contents, whatever room there is for entries
+  abbrev pub IsAsBefore : Contents C → Contents C → Type 0
+  IsAsBefore old new = new ≡ record old { room = new.room }
 
   -- row number r
   abbrev pub kept_row : List (List (Kept C)) → ℕ → List (Kept C)
@@ -99,7 +104,7 @@ module _ {C : Type 0} where
   abbrev pub KeepCaches : ℕ → List (List (Kept C)) → List (List (Kept C)) → Type 0
   KeepCaches stamp old new = (r : ℕ) → RowKeepsCaches stamp (kept_row old r) (kept_row new r)
 
-  -- One step of a book: parameters and start stay, the call is answered as the step answers it, the version is the step's, the journal has one entry more, and each bundle that took the new stamp has no cache.
+  -- One step of a book: parameters and start stay, the call is answered as the step answers it, the version is the step's, the journal has one entry more, and each bundle that took the new stamp has no cache. It leaves open what room there is.
   pub record IsStep (old new : Contents C) (c : Call) (answer : Answer) : Type 0 where
     pub same_parameters : new.parameters ≡ old.parameters
     pub same_start : new.start ≡ old.start

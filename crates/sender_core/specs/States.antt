@@ -1,5 +1,6 @@
 -- What a book's parts stand for, and what an entry makes of them.
-use Rattle.std.specs.Prelude.{◌≡◌, List, [], ◌∷◌, ◌++◌}
+use Rattle.std.specs.Prelude.{◌≡◌, ◌-◌, List, [], ◌∷◌, ◌++◌}
+use Rattle.std.specs.Vec.{vec_len, vec_capacity}
 use Rattle.std.specs.FinMap as fin
 use Rattle.psi_bundle.specs.declared.history.Entry.{Entry}
 use Rattle.psi_bundle.specs.Versions.{Labels}
@@ -11,7 +12,7 @@ use Rattle.sender_core.specs.Shown.{kept_of_rows}
 module _ {C : Type 0} where
   -- the contents; each book starts from the empty version
   abbrev pub contents_of : State C → Contents C
-  contents_of s = record { parameters = parameters_of s.params; start = empty_start (parameters_of s.params); labels = s.labels.entries; rows = kept_of_rows s.rows.items; journal = s.journal.items }
+  contents_of s = record { parameters = parameters_of s.params; start = empty_start (parameters_of s.params); labels = s.labels.entries; rows = kept_of_rows s.rows.items; journal = s.journal.items; room = vec_capacity s.journal - vec_len s.journal }
 
   -- One entry more, with these labels and these rows.
   pub record IsEntered (old new : Contents C) (labels : Labels) (rows : List (List (Kept C))) (e : Entry) : Type 0 where

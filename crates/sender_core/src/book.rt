@@ -1,5 +1,5 @@
 //! The book.
-ghost use Rattle.std.specs.Prelude.{◌≡◌, ◌≤◌, ◌<◌, ◌*◌, ◌^◌, ◌↔◌, ℕ, length, IfOk, IfErr, IfSome, IsNone, IsErr, OnErr, OnOk, slice_index_or};
+ghost use Rattle.std.specs.Prelude.{◌≡◌, ◌-◌, ◌≤◌, ◌<◌, ◌^◌, ◌↔◌, ℕ, length, min, IfOk, IfErr, IfSome, IsNone, IsErr, OnErr, OnOk, slice_index_or};
 
 use crate::answers::{DropAnswer, ENTRIES, Placed, Put, Refusal};
 use crate::snapshot::Snapshot;
@@ -37,11 +37,13 @@ impl<C: Cached + Drop> Book<C> {
     ghost use Rattle.psi_bundle.specs.declared.history.Call.TheVariants as Call;
     ghost use Rattle.psi_bundle.specs.declared.history.Answer.TheVariants.{Seen};
     ghost use Rattle.noise_ledger.specs.Verdicts.{ArePassed, parameters_of};
-    ghost use Rattle.sender_core.specs.Kept.{version_of, kept_row, empty_contents, IsConsistent, IsStep};
+    ghost use Rattle.psi_bundle.specs.Versions.{HasLabelLength};
+    ghost use Rattle.sender_core.specs.Kept.{version_of, kept_row, empty_contents, IsAsBefore, IsConsistent, IsStep};
     ghost use Rattle.sender_core.specs.Shown.{kept_of_row};
     ghost use Rattle.sender_core.specs.Answers.{answer_of_put, answer_of_drop, cause_at};
 
-    /// The book of an empty set with these parameters, which pass the check. It starts from the empty version.
+    /// The book of an empty set with these parameters. It starts from the empty version, has no entries, and no room
+    /// for any yet. Condition: the parameters pass `check` of the crate `noise_ledger`.
     pub fn open(alloc: Global, params: &Params) -> Result<Book<C>, AllocError>
         requires { ArePassed (parameters_of params.now) }
         ensures { IfOk result (λ book. book ≡ empty_contents (parameters_of params.now)) }
@@ -50,10 +52,12 @@ impl<C: Cached + Drop> Book<C> {
         Ok(Book { state })
     }
 
-    /// Takes room for so many entries more, at most 4096, or for all up to the limit of 2^20. The book stays as it is.
-    pub fn reserve(&mut self, entries: u32) -> Result<(), AllocError>
+    /// Takes room for so many entries more, or for all up to the limit of 2^20 entries: that many calls can then write
+    /// down their entries. Condition: at most 4096 entries. Whatever it answers, the book stays as it is otherwise.
+    pub fn reserve(&mut self, _alloc: Global, entries: u32) -> Result<(), AllocError>
         requires { entries ≤ 4096 }
-        ensures { self.new ≡ self.old }
+        ensures room { OnOk result (min entries (2 ^ 20 - length self.old.journal) ≤ self.new.room) }
+        ensures kept { IsAsBefore self.old self.new }
     {
         self.state.reserve(entries)
     }
@@ -81,7 +85,7 @@ impl<C: Cached + Drop> Book<C> {
         self.state.labels.get(tag)
     }
 
-    /// The bundles of a row, with their stamps and caches.
+    /// The bundles of a row, with their stamps and caches. Condition: the row is below the parameters' rows.
     pub fn bundles(&self, row: u8) -> &[Shown<C>]
         requires { row < self.now.parameters.rows }
         ensures { kept_of_row result.now ≡ kept_row self.now.rows row }
@@ -89,17 +93,18 @@ impl<C: Cached + Drop> Book<C> {
         &self.state.rows[row as usize]
     }
 
-    /// Puts a tag with its label of `10·units` bytes: it is the step of that call, and its entry is the next.
+    /// Puts a tag with its label: it is the step of that call, and its entry is the next. Condition: the label has
+    /// `10·units` bytes.
     ///
     /// `JournalFull` comes exactly where the journal has 2^20 entries, before anything else is looked at. After a
-    /// refusal the book is as before. A bundle that changes loses its cache.
+    /// refusal the book is as before, but for the room that it has for entries. A bundle that changes loses its cache.
     pub fn put(&mut self, alloc: Global, tag: Tag, label: Label) -> Result<Placed<Put>, Refusal>
-        requires { length label ≡ 10 * self.old.parameters.units }
+        requires { HasLabelLength self.old.parameters label }
         ensures stepped { IfOk result (λ placed. IsStep self.old self.new (Call.Put tag label) (answer_of_put placed.answer)) }
         ensures place { IfOk result (λ placed. placed.place ≡ length self.old.journal) }
         ensures full { length self.old.journal ≡ 2 ^ 20 → IsErr result }
         ensures cause { IfErr result (λ refusal. refusal ≡ cause_at (length self.old.journal)) }
-        ensures kept { OnErr result (self.new ≡ self.old) }
+        ensures kept { OnErr result (IsAsBefore self.old self.new) }
     {
         let place = self.next_place()?;
         match self.state.put(alloc, tag, label) {
@@ -111,13 +116,13 @@ impl<C: Cached + Drop> Book<C> {
     /// Takes a tag out of the set: it is the step of that call, and its entry is the next.
     ///
     /// `JournalFull` comes exactly where the journal has 2^20 entries, before anything else is looked at. After a
-    /// refusal the book is as before. A bundle that changes loses its cache.
+    /// refusal the book is as before, but for the room that it has for entries. A bundle that changes loses its cache.
     pub fn drop_tag(&mut self, alloc: Global, tag: Tag) -> Result<Placed<DropAnswer>, Refusal>
         ensures stepped { IfOk result (λ placed. IsStep self.old self.new (Call.Drop tag) (answer_of_drop placed.answer)) }
         ensures place { IfOk result (λ placed. placed.place ≡ length self.old.journal) }
         ensures full { length self.old.journal ≡ 2 ^ 20 → IsErr result }
         ensures cause { IfErr result (λ refusal. refusal ≡ cause_at (length self.old.journal)) }
-        ensures kept { OnErr result (self.new ≡ self.old) }
+        ensures kept { OnErr result (IsAsBefore self.old self.new) }
     {
         let place = self.next_place()?;
         match self.state.drop_tag(alloc, tag) {
@@ -130,7 +135,7 @@ impl<C: Cached + Drop> Book<C> {
     /// place the snapshot has.
     ///
     /// `JournalFull` comes exactly where the journal has 2^20 entries, before anything else is looked at. After a
-    /// refusal the book is as before.
+    /// refusal the book is as before, but for the room that it has for entries.
     pub fn ask(&mut self, alloc: Global) -> Result<Placed<Snapshot<C>>, Refusal>
         ensures stepped { OnOk result (IsStep self.old self.new Call.Ask Seen) }
         ensures shown { IfOk result (λ placed. placed.answer ≡ record { place = length self.old.journal; rows = self.old.rows }) }
@@ -138,7 +143,7 @@ impl<C: Cached + Drop> Book<C> {
         ensures place { IfOk result (λ placed. placed.place ≡ length self.old.journal) }
         ensures full { length self.old.journal ≡ 2 ^ 20 → IsErr result }
         ensures cause { IfErr result (λ refusal. refusal ≡ cause_at (length self.old.journal)) }
-        ensures kept { OnErr result (self.new ≡ self.old) }
+        ensures kept { OnErr result (IsAsBefore self.old self.new) }
     {
         let place = self.next_place()?;
         let answer = match self.seen(alloc, place) {

@@ -17,7 +17,8 @@ pub enum Sight<C> {
     Ready { cache: Arc<C>, stamp: u64 },
 }
 
-/// All bundles of a book as they stood when an entry was made. It is read without a lock.
+/// All bundles of a book as they stood when an entry was made. It is read without a lock. Clauses see the entry's place
+/// and the bundles of each row.
 #[derive(Drop)]
 pub struct Snapshot<C: Cached> {
     place: u64,
@@ -87,7 +88,7 @@ impl<C: Cached + Drop> Snapshot<C> {
         self.place
     }
 
-    /// The bundles of a row.
+    /// The bundles of a row. Condition: the row is below the number of rows.
     pub fn bundles(&self, row: u8) -> &[Sight<C>]
         requires { row < length self.now.rows }
         ensures { seen_row C.contents result.now ≡ kept_row self.now.rows row }

@@ -1,6 +1,5 @@
 //! What a book consists of, and the three ways in which an entry changes it.
-ghost use Rattle.std.specs.Prelude.{◌≡◌, ℕ, ◌≤◌, ◌<◌, ◌^◌, [], ◌∷◌, ◌++◌, true, false, length, IfOk, OnOk, OnErr, replicate, is_some};
-ghost use Rattle.std.specs.Vec.{vec_len, vec_capacity};
+ghost use Rattle.std.specs.Prelude.{◌≡◌, ℕ, ◌-◌, ◌≤◌, ◌<◌, [], ◌∷◌, ◌++◌, true, false, length, min, IfOk, OnOk, OnErr, replicate, is_some};
 ghost use Rattle.sender_core.specs.Shown.{kept_of_rows};
 
 use crate::answers::{DropAnswer, ENTRIES, Put};
@@ -36,20 +35,12 @@ fn empty_rows<C: Drop>(alloc: Global, rows: u8) -> Result<Vec<Vec<Shown<C>>>, Al
     Ok(empty)
 }
 
-// Adds an entry to a journal that has room for it.
-fn write_entry(journal: &mut Vec<Entry>, call: Call, answer: Answer)
-    requires { vec_len journal.old < vec_capacity journal.old }
-    ensures { journal.new.items ≡ journal.old.items ++ record { call = call; answer = answer } ∷ [] }
-{
-    let _ = journal.push(Entry { call, answer });
-}
-
 impl<C: Drop> State<C> {
     ghost use Rattle.std.specs.FinMap as fin;
     ghost use Rattle.psi_bundle.specs.Steps.{step};
     ghost use Rattle.psi_bundle.specs.declared.history.Call.TheVariants as Call;
     ghost use Rattle.noise_ledger.specs.Verdicts.{parameters_of};
-    ghost use Rattle.sender_core.specs.Kept.{version_of, empty_start, IsStep, IsReady, KeepCaches, bundles_of};
+    ghost use Rattle.sender_core.specs.Kept.{version_of, empty_start, most_entries, IsAsBefore, IsStep, IsReady};
     ghost use Rattle.sender_core.specs.States.{contents_of, IsEntered};
     ghost use Rattle.sender_core.specs.Shown.{kept_of_rows};
     ghost use Rattle.psi_bundle.specs.declared.history.Answer.TheVariants.{Removed, Seen};
@@ -57,7 +48,7 @@ impl<C: Drop> State<C> {
 
     /// No labels, no bundles, no entries.
     pub(crate) fn empty(alloc: Global, params: &Params) -> Result<State<C>, AllocError>
-        ensures { IfOk result (λ state. contents_of state ≡ record { parameters = parameters_of params.now; start = empty_start (parameters_of params.now); labels = []; rows = replicate params.now.rows []; journal = [] }) }
+        ensures { IfOk result (λ state. contents_of state ≡ record { parameters = parameters_of params.now; start = empty_start (parameters_of params.now); labels = []; rows = replicate params.now.rows []; journal = []; room = 0 }) }
     {
         Ok(State {
             params: *params,
@@ -76,8 +67,9 @@ impl<C: Drop> State<C> {
 
     /// Takes room for so many entries more, or for all up to the most that a journal has.
     pub(crate) fn reserve(&mut self, entries: u32) -> Result<(), AllocError>
-        requires { length (contents_of self.old).journal ≤ 2 ^ 20 }
-        ensures { contents_of self.new ≡ contents_of self.old }
+        requires { length (contents_of self.old).journal ≤ most_entries }
+        ensures room { OnOk result (min entries (most_entries - length (contents_of self.old).journal) ≤ (contents_of self.new).room) }
+        ensures kept { IsAsBefore (contents_of self.old) (contents_of self.new) }
     {
         let free = ENTRIES - self.count();
         self.journal.reserve(free.min(u64::from(entries)) as usize)
@@ -87,7 +79,7 @@ impl<C: Drop> State<C> {
     pub(crate) fn put(&mut self, alloc: Global, tag: Tag, label: Label) -> Result<Put, AllocError>
         requires { IsReady (contents_of self.old) }
         ensures stepped { IfOk result (λ put. IsStep (contents_of self.old) (contents_of self.new) (Call.Put tag label) (answer_of_put put)) }
-        ensures kept { OnErr result (contents_of self.new ≡ contents_of self.old) }
+        ensures kept { OnErr result (IsAsBefore (contents_of self.old) (contents_of self.new)) }
     {
         if self.labels.contains_key(&tag) {
             self.replace(alloc, tag, label)
@@ -101,7 +93,7 @@ impl<C: Drop> State<C> {
         requires ready { IsReady (contents_of self.old) }
         requires present { is_some (fin.get (version_of (contents_of self.old)).labels tag) ≡ true }
         ensures stepped { IfOk result (λ put. IsStep (contents_of self.old) (contents_of self.new) (Call.Put tag label) (answer_of_put put)) }
-        ensures kept { OnErr result (contents_of self.new ≡ contents_of self.old) }
+        ensures kept { OnErr result (IsAsBefore (contents_of self.old) (contents_of self.new)) }
     {
         let places = positions(&tag, self.params.rows);
         let change = Change::Relabel { label };
@@ -122,7 +114,7 @@ impl<C: Drop> State<C> {
         requires ready { IsReady (contents_of self.old) }
         requires absent { is_some (fin.get (version_of (contents_of self.old)).labels tag) ≡ false }
         ensures stepped { IfOk result (λ put. IsStep (contents_of self.old) (contents_of self.new) (Call.Put tag label) (answer_of_put put)) }
-        ensures kept { OnErr result (contents_of self.new ≡ contents_of self.old) }
+        ensures kept { OnErr result (IsAsBefore (contents_of self.old) (contents_of self.new)) }
     {
         let places = positions(&tag, self.params.rows);
         let rows = placed(
@@ -148,7 +140,7 @@ impl<C: Drop> State<C> {
     pub(crate) fn drop_tag(&mut self, alloc: Global, tag: Tag) -> Result<DropAnswer, AllocError>
         requires { IsReady (contents_of self.old) }
         ensures stepped { IfOk result (λ dropped. IsStep (contents_of self.old) (contents_of self.new) (Call.Drop tag) (answer_of_drop dropped)) }
-        ensures kept { OnErr result (contents_of self.new ≡ contents_of self.old) }
+        ensures kept { OnErr result (IsAsBefore (contents_of self.old) (contents_of self.new)) }
     {
         if self.labels.contains_key(&tag) {
             self.remove(alloc, tag)?;
@@ -162,7 +154,7 @@ impl<C: Drop> State<C> {
     /// Adds the entry of a query, which changes nothing else.
     pub(crate) fn ask(&mut self) -> Result<(), AllocError>
         ensures stepped { OnOk result (IsStep (contents_of self.old) (contents_of self.new) Call.Ask Seen) }
-        ensures kept { OnErr result (contents_of self.new ≡ contents_of self.old) }
+        ensures kept { OnErr result (IsAsBefore (contents_of self.old) (contents_of self.new)) }
     {
         self.note(Call::Ask, Answer::Seen)
     }
@@ -172,7 +164,7 @@ impl<C: Drop> State<C> {
         requires ready { IsReady (contents_of self.old) }
         requires present { is_some (fin.get (version_of (contents_of self.old)).labels tag) ≡ true }
         ensures stepped { OnOk result (IsStep (contents_of self.old) (contents_of self.new) (Call.Drop tag) Removed) }
-        ensures kept { OnErr result (contents_of self.new ≡ contents_of self.old) }
+        ensures kept { OnErr result (IsAsBefore (contents_of self.old) (contents_of self.new)) }
     {
         let places = positions(&tag, self.params.rows);
         let rows = changed(
@@ -189,7 +181,7 @@ impl<C: Drop> State<C> {
     // Adds the entry of a call that changes nothing.
     fn note(&mut self, call: Call, answer: Answer) -> Result<(), AllocError>
         ensures noted { OnOk result (IsEntered (contents_of self.old) (contents_of self.new) (version_of (contents_of self.old)).labels (contents_of self.old).rows (record { call = call; answer = answer })) }
-        ensures kept { OnErr result (contents_of self.new ≡ contents_of self.old) }
+        ensures kept { OnErr result (IsAsBefore (contents_of self.old) (contents_of self.new)) }
     {
         self.journal.push(Entry { call, answer })?;
         Ok(())
@@ -204,24 +196,30 @@ impl<C: Drop> State<C> {
         answer: Answer,
     ) -> Result<(), AllocError>
         ensures entered { OnOk result (IsEntered (contents_of self.old) (contents_of self.new) (fin.insert (version_of (contents_of self.old)).labels tag label) (kept_of_rows rows.items) (record { call = Call.Put tag label; answer = answer })) }
-        ensures kept { OnErr result (contents_of self.new ≡ contents_of self.old) }
+        ensures kept { OnErr result (IsAsBefore (contents_of self.old) (contents_of self.new)) }
     {
         self.journal.reserve(1)?;
         self.labels.insert(tag, label)?;
         self.rows = rows;
-        write_entry(&mut self.journal, Call::Put { tag, label }, answer);
+        self.journal.push_reserved(Entry {
+            call: Call::Put { tag, label },
+            answer,
+        });
         Ok(())
     }
 
     // Adds the entry of a Drop that takes the tag out of the map, with other rows.
-    fn leave(&mut self, tag: Tag, rows: Vec<Vec<Shown<C>>>) -> Result<(), AllocError>
-        ensures left { OnOk result (IsEntered (contents_of self.old) (contents_of self.new) (fin.remove (version_of (contents_of self.old)).labels tag) (kept_of_rows rows.items) (record { call = Call.Drop tag; answer = Removed })) }
-        ensures kept { OnErr result (contents_of self.new ≡ contents_of self.old) }
+    fn leave(&mut self, tag: Tag, others: Vec<Vec<Shown<C>>>) -> Result<(), AllocError>
+        ensures left { OnOk result (IsEntered (contents_of self.old) (contents_of self.new) (fin.remove (version_of (contents_of self.old)).labels tag) (kept_of_rows others.items) (record { call = Call.Drop tag; answer = Removed })) }
+        ensures kept { OnErr result (IsAsBefore (contents_of self.old) (contents_of self.new)) }
     {
         self.journal.reserve(1)?;
         self.labels.remove(&tag);
-        self.rows = rows;
-        write_entry(&mut self.journal, Call::Drop { tag }, Answer::Removed);
+        self.rows = others;
+        self.journal.push_reserved(Entry {
+            call: Call::Drop { tag },
+            answer: Answer::Removed,
+        });
         Ok(())
     }
 }

@@ -109,7 +109,7 @@ fn shared_slots_part_bundles(rt: HostRuntime) {
 fn a_set_is_full_at_its_planes(rt: HostRuntime) {
     let alloc = rt.alloc();
     let mut book = open_book(alloc, 1).expect(&rt, "opened");
-    book.reserve(66).ok().expect(&rt, "memory");
+    book.reserve(alloc, 66).ok().expect(&rt, "memory");
     for i in 0..64u8 {
         let answer = put(&mut book, alloc, made_up([i; 5], [0; 3]));
         assert_eq!(rt; answer, Some((Put::Added, u64::from(i))));

@@ -1,5 +1,5 @@
-use Rattle.sender_core.proofs.SoundSteps.{sound-step, sound-empty}
-use Rattle.sender_core.proofs.SoundHistories.{sound-version_at}
+use Rattle.sender_core.proofs.SoundSteps.{sound-empty}
+use Rattle.sender_core.proofs.SoundHistories.{sound-step, sound-version_at}
 use Rattle.sender_core.proofs.laws.steps_keep_sets_sound.Goals as goal
 
 pub returns-clause-begins : goal.returns-clause-begins

@@ -10,5 +10,5 @@ returns-clause-entered g c = record {
   start = refl;
   labelled = one_given c.args.self.now.labels.entries c.insert.new.self.entries c.args.tag c.args.label (λ q. c.in_ok-insert.ensures.updates.0 q);
   bundled = refl;
-  written = c.write_entry.ensures ∙ ap (λ (es : List Entry). es ++ record { call = Call.Put c.args.tag c.args.label; answer = c.args.answer } ∷ []) c.reserve.ensures.items;
+  written = c.push_reserved.ensures.items ∙ ap (λ (es : List Entry). es ++ record { call = Call.Put c.args.tag c.args.label; answer = c.args.answer } ∷ []) c.reserve.ensures.items;
 }

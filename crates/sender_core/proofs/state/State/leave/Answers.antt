@@ -11,5 +11,5 @@ returns-clause-left g c = record {
   start = refl;
   labelled = one_taken c.args.self.now.labels.entries c.remove.new.self.entries c.args.tag (λ q. c.remove.ensures.updates.0 q);
   bundled = refl;
-  written = c.write_entry.ensures ∙ ap (λ (es : List Entry). es ++ record { call = Call.Drop c.args.tag; answer = Removed } ∷ []) c.reserve.ensures.items;
+  written = c.push_reserved.ensures.items ∙ ap (λ (es : List Entry). es ++ record { call = Call.Drop c.args.tag; answer = Removed } ∷ []) c.reserve.ensures.items;
 }
