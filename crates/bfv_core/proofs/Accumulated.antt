@@ -5,8 +5,8 @@ use Rattle.std.proofs.lemmas.List.FromFn.{get_or-map-range_with_len}
 use Rattle.psi_residue.specs.Numbers.{first_modulus, second_modulus, scale}
 use Rattle.psi_residue.specs.Ring.{product_at, product}
 use Rattle.psi_residue.proofs.Sums.{slice_index-table}
-use Rattle.bfv_core.specs.Encryptions.{IsCiphertext, list_at}
-use Rattle.bfv_core.specs.EncryptedLists.{list_modulus, added, scaled, list_with_product, with_product, with_plain}
+use Rattle.psi_residue.specs.Ciphertexts.{IsCiphertext, list_at, list_modulus}
+use Rattle.bfv_core.specs.EncryptedLists.{added, scaled, list_with_product, with_product, with_plain}
 use Rattle.bfv_core.proofs.Tables.{get_or-product, added-polynomial}
 
 pub get_or-added : (m : ℕ) (a b : List ℕ) (k : ℕ) → k < 4096 → get_or (added m a b) k 0 ≡ (get_or a k 0 + get_or b k 0) % m

@@ -2,10 +2,10 @@
 use Rattle.std.proofs.Common.{◌≡◌, ℕ, zero, suc, ◌+◌, ◌<◌, List, [], ◌∷◌, length, set, refl, ap, sym, subst, ◌∙◌, arith, replicate}
 use Rattle.psi_residue.specs.Numbers.{first_modulus, second_modulus}
 use Rattle.psi_residue.specs.Polynomials.{IsPolynomial}
-use Rattle.bfv_core.specs.Encryptions.{IsCiphertext, list_at}
+use Rattle.psi_residue.specs.Ciphertexts.{IsCiphertext, list_at, list_modulus}
 use Rattle.psi_residue.proofs.Polynomials.{IsPolynomial-constant}
 use Rattle.psi_residue.specs.Ring.{product}
-use Rattle.bfv_core.specs.EncryptedLists.{list_modulus, added, list_with_product}
+use Rattle.bfv_core.specs.EncryptedLists.{added, list_with_product}
 use Rattle.bfv_core.proofs.Filling.{IsFilled, IsFilled-more}
 
 -- a list of four

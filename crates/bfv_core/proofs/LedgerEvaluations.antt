@@ -8,8 +8,9 @@ use Rattle.psi_residue.specs.Numbers.{first_modulus, second_modulus, cipher_modu
 use Rattle.psi_residue.specs.Ring.{product_at}
 use Rattle.psi_residue.specs.Residues.{residue_of, residues_of}
 use Rattle.psi_residue.proofs.Sums.{length-table, slice_index-table}
-use Rattle.bfv_core.specs.Encryptions.{list_at, IsCiphertext, phase_residue, phase}
-use Rattle.bfv_core.specs.Evaluations.{evaluated_at, evaluated}
+use Rattle.psi_residue.specs.Ciphertexts.{list_at, IsCiphertext}
+use Rattle.bfv_core.specs.Encryptions.{phase_residue, phase}
+use Rattle.psi_residue.specs.Evaluations.{evaluated_at, evaluated}
 use Rattle.bfv_core.proofs.LedgerSums.{mod-add, sum-mod}
 use Rattle.bfv_core.proofs.LedgerRing.{ring}
 use Rattle.bfv_core.proofs.LedgerProducts.{product-ring}

@@ -9,9 +9,10 @@ use Rattle.psi_residue.specs.Polynomials.{IsPolynomial}
 use Rattle.psi_residue.specs.Ring.{conv, product_at}
 use Rattle.psi_residue.specs.Slots.{slot_of}
 use Rattle.psi_residue.proofs.Sums.{sum_below-same, sum_below-add, sum_below-times, sum_below-bound, length-table, slice_index-table, same_as_table}
-use Rattle.noise_ledger.specs.Ledgers.{greatest_error, greatest_coefficient, carry_of, noise_of, used_of}
+use Rattle.noise_ledger.specs.Ledgers.{greatest_error, greatest_coefficient, carry_of, noise_of, used_of, passes}
 use Rattle.bfv_core.specs.Encryptions.{IsNear, Carries, phase, opened, opening}
-use Rattle.bfv_core.specs.Evaluations.{evaluated, evaluated_plain, IsEvaluable, whole_more, whole_less, IsCarry, IsScaledCarry, IsSlotwise}
+use Rattle.psi_residue.specs.Evaluations.{evaluated}
+use Rattle.bfv_core.specs.Evaluations.{evaluated_plain, IsEvaluable, whole_more, whole_less, IsCarry, IsScaledCarry, IsSlotwise}
 use Rattle.bfv_core.proofs.LedgerSums.{mod-add, sum-mod}
 use Rattle.bfv_core.proofs.LedgerRing.{ring, ring-times, ring-bound, spread-ring}
 use Rattle.bfv_core.proofs.LedgerProducts.{conv-spread, past-end, product-ring, product-whole}
@@ -273,18 +274,18 @@ evaluation-carries p key ciphertexts plaintexts factors h i lt =
           (carry-rest p.capacity factors plaintexts i carry.up carry.down carry.exact);
     }
 
-opened-is : (count x m : ℕ) → used_of count < cipher_modulus → m < plain_modulus → IsNear cipher_modulus (noise_of count) x (scale * m) → opened x ≡ m
+opened-is : (p : Parameters) (x m : ℕ) → passes p → m < plain_modulus → IsNear cipher_modulus (noise_of p.capacity) x (scale * m) → opened x ≡ m
 unfolding opened used_of
-opened-is count x m passes below near =
-    opened-near cipher_modulus plain_modulus scale scale_rest greatest_coefficient (noise_of count) x m (omega arith) refl below (omega arith) passes near
+opened-is p x m passed below near =
+    opened-near cipher_modulus plain_modulus scale scale_rest greatest_coefficient (noise_of p.capacity) x m (omega arith) refl below (omega arith) passed near
 
 -- What carries a plaintext within the noise of a ledger that passes opens to it.
-pub carried-opens : (count : ℕ) (key : List ℤ) (ct : List (List ℕ)) (plain : List ℕ) → used_of count < cipher_modulus → IsPolynomial plain_modulus plain
-    → Carries (noise_of count) key ct plain → opening key ct ≡ plain
+pub carried-opens : (p : Parameters) (key : List ℤ) (ct : List (List ℕ)) (plain : List ℕ) → passes p → IsPolynomial plain_modulus plain
+    → Carries (noise_of p.capacity) key ct plain → opening key ct ≡ plain
 unfolding opening
-carried-opens count key ct plain passes h carried =
+carried-opens p key ct plain passed h carried =
     sym (same_as_table 4096 (λ k. opened (phase key ct k)) plain h.size
-    (λ k lt. sym (opened-is count (phase key ct k) (get_or plain k 0) passes (h.below k lt) (carried k lt))))
+    (λ k lt. sym (opened-is p (phase key ct k) (get_or plain k 0) passed (h.below k lt) (carried k lt))))
 
 pub evaluated_plain-polynomial : (count : ℕ) (factors plaintexts : ℕ → List ℕ) → IsPolynomial plain_modulus (evaluated_plain count factors plaintexts)
 unfolding evaluated_plain
@@ -296,7 +297,7 @@ evaluated_plain-polynomial count factors plaintexts = record { size = size; belo
 pub evaluation-opens : (p : Parameters) (key : List ℤ) (ciphertexts : ℕ → List (List ℕ)) (plaintexts factors : ℕ → List ℕ)
     → IsEvaluable p key ciphertexts plaintexts factors → opening key (evaluated p.capacity factors ciphertexts) ≡ evaluated_plain p.capacity factors plaintexts
 evaluation-opens p key ciphertexts plaintexts factors h =
-    carried-opens p.capacity key (evaluated p.capacity factors ciphertexts) (evaluated_plain p.capacity factors plaintexts) h.passed.little_noise
+    carried-opens p key (evaluated p.capacity factors ciphertexts) (evaluated_plain p.capacity factors plaintexts) h.passed.little_noise
     (evaluated_plain-polynomial p.capacity factors plaintexts) (evaluation-carries p key ciphertexts plaintexts factors h)
 
 root-power : root ^ 4096 % plain_modulus ≡ 65536 % plain_modulus

@@ -6,7 +6,8 @@ use Rattle.psi_residue.specs.Polynomials.{IsPolynomial}
 use Rattle.psi_residue.specs.Ring.{product_at, product}
 use Rattle.psi_residue.specs.Residues.{residues_of, composed}
 use Rattle.psi_residue.proofs.Sums.{slice_index-table, same_as_table}
-use Rattle.bfv_core.specs.Encryptions.{list_at, phase_residue, phase, opened, opening}
+use Rattle.psi_residue.specs.Ciphertexts.{list_at}
+use Rattle.bfv_core.specs.Encryptions.{phase_residue, phase, opened, opening}
 use Rattle.bfv_core.specs.EncryptedLists.{added}
 use Rattle.bfv_core.proofs.Filling.{IsFilled, IsFilled-none}
 use Rattle.bfv_core.proofs.Tables.{table-same, get_or-product, IsPolynomial-table}

@@ -1,16 +1,12 @@
 -- The residue lists of encryptions from a seed, and of sums of ciphertexts (Fan and Vercauteren 2012, with a secret key).
-use Rattle.std.specs.Prelude.{ℕ, ◌+◌, ◌-◌, ◌*◌, ◌%◌, ◌==◌, if◌then◌else◌, List, [], ◌∷◌, map, replicate, slice_index, ℤ}
+use Rattle.std.specs.Prelude.{ℕ, ◌+◌, ◌-◌, ◌*◌, ◌%◌, List, [], ◌∷◌, map, replicate, slice_index, ℤ}
 use Rattle.std.specs.List.{range_with_len}
 use Rattle.psi_residue.specs.Sums.{table}
 use Rattle.psi_residue.specs.Numbers.{ring_degree, first_modulus, second_modulus, scale}
 use Rattle.psi_residue.specs.Ring.{product_at, product}
 use Rattle.psi_residue.specs.Residues.{residue_of, residues_of}
 use Rattle.psi_sampler.specs.Sampling.{key_coefficient, first_mask_residue, second_mask_residue, error_coefficient}
-use Rattle.bfv_core.specs.Encryptions.{list_at}
-
--- the modulus of residue list number l
-abbrev pub list_modulus : ℕ → ℕ
-list_modulus l = if l % 2 == 0 then first_modulus else second_modulus
+use Rattle.psi_residue.specs.Ciphertexts.{list_at, list_modulus}
 
 -- the key of a seed
 unfoldable pub key_of_seed : List ℕ → List ℤ

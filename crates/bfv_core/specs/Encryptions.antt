@@ -1,25 +1,13 @@
 -- What a ciphertext of the scheme of Fan and Vercauteren (2012) carries under a key, and what it opens to.
 -- A ciphertext (c0, c1) is four lists of residues: c0 modulo the first and the second modulus, then c1 modulo these.
 -- A key is a list of small whole numbers.
-use Rattle.std.specs.Prelude.{◌≡◌, ℕ, ◌+◌, ◌*◌, ◌/◌, ◌%◌, ◌<◌, ◌≤◌, List, [], length, slice_index, slice_index_or, ℤ, unsigned_abs}
+use Rattle.std.specs.Prelude.{◌≡◌, ℕ, ◌+◌, ◌*◌, ◌/◌, ◌%◌, ◌<◌, ◌≤◌, List, length, slice_index, ℤ, unsigned_abs}
 use Rattle.std.specs.List.{All}
 use Rattle.psi_residue.specs.Sums.{table}
 use Rattle.psi_residue.specs.Numbers.{ring_degree, plain_modulus, first_modulus, second_modulus, cipher_modulus, scale}
-use Rattle.psi_residue.specs.Polynomials.{IsPolynomial}
 use Rattle.psi_residue.specs.Ring.{product_at}
 use Rattle.psi_residue.specs.Residues.{composed, residues_of}
-
--- residue list number l of a ciphertext
-abbrev pub list_at : List (List ℕ) → ℕ → List ℕ
-list_at ct l = slice_index_or ct l []
-
--- four residue lists, each of a polynomial modulo its modulus
-pub record IsCiphertext (ct : List (List ℕ)) : Type 0 where
-  pub four : length ct ≡ 4
-  pub c0_first : IsPolynomial first_modulus (list_at ct 0)
-  pub c0_second : IsPolynomial second_modulus (list_at ct 1)
-  pub c1_first : IsPolynomial first_modulus (list_at ct 2)
-  pub c1_second : IsPolynomial second_modulus (list_at ct 3)
+use Rattle.psi_residue.specs.Ciphertexts.{list_at}
 
 -- a key whose coefficients are -1, 0 or 1
 pub record IsKey (key : List ℤ) : Type 0 where

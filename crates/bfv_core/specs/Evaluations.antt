@@ -1,32 +1,18 @@
--- The evaluation of a polynomial with plaintext coefficients P_0, P_1, .. at encrypted powers C_1, C_2, .. (Chen, Laine, Rindal,
--- CCS 2017), and what it carries under the key in the scheme of Fan and Vercauteren (2012). P_k is factor number k. C_k is ciphertext
--- number k - 1, and carries the plaintext m_k, which has this number too.
-use Rattle.std.specs.Prelude.{◌≡◌, ℕ, Bool, true, false, ◌+◌, ◌*◌, ◌%◌, ◌<◌, ◌≤◌, List, [], ◌∷◌, slice_index, ℤ, if◌then◌else◌}
+-- What the evaluation of a polynomial with plaintext coefficients P_0, P_1, .. at encrypted powers C_1, C_2, .. (Chen, Laine, Rindal,
+-- CCS 2017) carries under the key in the scheme of Fan and Vercauteren (2012). P_k is factor number k. C_k is ciphertext number k - 1,
+-- and carries the plaintext m_k, which has this number too.
+use Rattle.std.specs.Prelude.{◌≡◌, ℕ, ◌+◌, ◌*◌, ◌%◌, ◌<◌, ◌≤◌, List, slice_index, ℤ}
 use Rattle.psi_residue.specs.Sums.{sum_below, table}
-use Rattle.psi_residue.specs.Numbers.{ring_degree, plain_modulus, first_modulus, second_modulus, cipher_modulus, scale, scale_rest}
+use Rattle.psi_residue.specs.Numbers.{ring_degree, plain_modulus, cipher_modulus, scale, scale_rest}
 use Rattle.psi_residue.specs.Parameters.{Parameters}
 use Rattle.psi_residue.specs.Polynomials.{IsPolynomial}
 use Rattle.psi_residue.specs.Ring.{conv, product_at}
 use Rattle.psi_residue.specs.Slots.{slot_of}
 use Rattle.noise_ledger.specs.Ledgers.{greatest_error, carry_of, noise_of, passes}
 use Rattle.noise_ledger.specs.Verdicts.{ArePassed}
-use Rattle.bfv_core.specs.Encryptions.{list_at, IsCiphertext, IsKey, Carries, opening}
-
--- Coefficient i of the evaluation in one residue list with the modulus m: the sum of P_k·C_k for k from 1 to the count, and Δ·P_0 where
--- the list is of c0. The lists are those of the ciphertexts.
-unfoldable pub evaluated_at : (m : ℕ) → Bool → (count : ℕ) → (factors lists : ℕ → List ℕ) → ℕ → ℕ
-evaluated_at m of_c0 count factors lists i =
-    (sum_below count (λ k. product_at m ring_degree (factors (k + 1)) (lists k) i)
-    + (if of_c0 then scale * slice_index (factors 0) i else 0)) % m
-
--- the four residue lists of the evaluation
-unfoldable pub evaluated : (count : ℕ) → (factors : ℕ → List ℕ) → (ciphertexts : ℕ → List (List ℕ)) → List (List ℕ)
-evaluated count factors ciphertexts =
-    table ring_degree (evaluated_at first_modulus true count factors (λ k. list_at (ciphertexts k) 0))
-    ∷ table ring_degree (evaluated_at second_modulus true count factors (λ k. list_at (ciphertexts k) 1))
-    ∷ table ring_degree (evaluated_at first_modulus false count factors (λ k. list_at (ciphertexts k) 2))
-    ∷ table ring_degree (evaluated_at second_modulus false count factors (λ k. list_at (ciphertexts k) 3))
-    ∷ []
+use Rattle.psi_residue.specs.Ciphertexts.{IsCiphertext}
+use Rattle.psi_residue.specs.Evaluations.{evaluated}
+use Rattle.bfv_core.specs.Encryptions.{IsKey, Carries, opening}
 
 -- the same evaluation of the plaintexts: the sum of P_k·m_k and P_0, modulo the plaintext modulus
 unfoldable pub evaluated_plain : (count : ℕ) → (factors plaintexts : ℕ → List ℕ) → List ℕ
@@ -91,8 +77,8 @@ EvaluationsCarry =
 -- What carries a plaintext within the noise of a ledger that passes opens to it.
 abbrev pub CarriedOpens : Type 0
 CarriedOpens =
-    (capacity : ℕ) (key : List ℤ) (ct : List (List ℕ)) (plain : List ℕ)
-    → passes capacity → IsPolynomial plain_modulus plain → Carries (noise_of capacity) key ct plain → opening key ct ≡ plain
+    (p : Parameters) (key : List ℤ) (ct : List (List ℕ)) (plain : List ℕ)
+    → passes p → IsPolynomial plain_modulus plain → Carries (noise_of p.capacity) key ct plain → opening key ct ≡ plain
 
 -- The evaluation opens to the same evaluation of the plaintexts.
 abbrev pub EvaluationsOpen : Type 0

@@ -3,8 +3,8 @@ ghost use Rattle.std.specs.Prelude.{◌≡◌, ◌<◌, IfOk, slice_set};
 ghost use Rattle.psi_residue.specs.Numbers.{plain_modulus, ring_degree};
 ghost use Rattle.psi_residue.specs.Polynomials.{IsPolynomial};
 ghost use Rattle.psi_residue.specs.Ring.{product};
-ghost use Rattle.bfv_core.specs.Encryptions.{IsCiphertext, list_at};
-ghost use Rattle.bfv_core.specs.EncryptedLists.{added, list_modulus as modulus_of_list, scaled, with_plain, with_product, zero_lists};
+ghost use Rattle.psi_residue.specs.Ciphertexts.{IsCiphertext, list_at, list_modulus as modulus_of_list};
+ghost use Rattle.bfv_core.specs.EncryptedLists.{added, scaled, with_plain, with_product, zero_lists};
 
 use crate::ciphertext::{Ciphertext, list_modulus};
 use crate::polynomials::{add_to, write_scaled, write_wide};
@@ -21,7 +21,7 @@ pub struct Accumulator {
 
 impl Model for Accumulator {
     ghost use Rattle.std.specs.Prelude.{List, ℕ};
-    ghost use Rattle.bfv_core.specs.Encryptions.{IsCiphertext};
+    ghost use Rattle.psi_residue.specs.Ciphertexts.{IsCiphertext};
 
     ghost Value = { List (List ℕ) };
 

@@ -2,8 +2,8 @@
 ghost use Rattle.std.specs.Prelude.{◌≡◌, ◌<◌, IfOk, slice_set};
 ghost use Rattle.psi_residue.specs.Numbers.{modulus_of};
 ghost use Rattle.psi_residue.specs.Polynomials.{IsPolynomial};
-ghost use Rattle.bfv_core.specs.Encryptions.{IsCiphertext, list_at};
-ghost use Rattle.bfv_core.specs.EncryptedLists.{list_modulus, zero_lists};
+ghost use Rattle.psi_residue.specs.Ciphertexts.{IsCiphertext, list_at, list_modulus};
+ghost use Rattle.bfv_core.specs.EncryptedLists.{zero_lists};
 
 use psi_residue::{Modulus, N};
 use std::alloc::{AllocError, Global};
@@ -22,7 +22,7 @@ pub struct Ciphertext {
 
 impl Model for Ciphertext {
     ghost use Rattle.std.specs.Prelude.{List, [], ◌∷◌, ℕ};
-    ghost use Rattle.bfv_core.specs.Encryptions.{IsCiphertext};
+    ghost use Rattle.psi_residue.specs.Ciphertexts.{IsCiphertext};
 
     ghost Value = { List (List ℕ) };
 

@@ -3,7 +3,8 @@ ghost use Rattle.std.specs.Prelude.{◌≡◌, ◌<◌, ◌*◌, ◌+◌, ◌-�
 ghost use Rattle.psi_residue.specs.Numbers.{modulus_of, ring_degree, plain_modulus, scale};
 ghost use Rattle.psi_residue.specs.Polynomials.{IsPolynomial};
 ghost use Rattle.psi_residue.specs.Residues.{residue_of};
-ghost use Rattle.bfv_core.specs.Encryptions.{IsCiphertext, Carries};
+ghost use Rattle.psi_residue.specs.Ciphertexts.{IsCiphertext};
+ghost use Rattle.bfv_core.specs.Encryptions.{Carries};
 ghost use Rattle.bfv_core.specs.EncryptedLists.{key_of_seed, hidden, encrypted};
 
 use crate::ciphertext::Ciphertext;

@@ -1,7 +1,8 @@
--- The ledger: how much noise a reply may carry in the scheme of Fan and Vercauteren (2012), at the worst, for a capacity, which
--- is the number of ciphertexts that are summed. The three formulas are this project's own.
+-- The ledger: how much noise a reply may carry in the scheme of Fan and Vercauteren (2012), at the worst. The capacity is the number
+-- of ciphertexts that are summed. The three formulas are this project's own.
 use Rattle.std.specs.Prelude.{ℕ, ◌+◌, ◌*◌, ◌/◌, ◌<◌}
 use Rattle.psi_residue.specs.Numbers.{ring_degree, plain_modulus, cipher_modulus, scale_rest}
+use Rattle.psi_residue.specs.Parameters.{Parameters}
 
 -- the greatest coefficient of a plaintext
 abbrev pub greatest_coefficient : ℕ
@@ -21,10 +22,11 @@ carry_of capacity = (capacity * (ring_degree * greatest_coefficient * greatest_c
 unfoldable pub noise_of : ℕ → ℕ
 noise_of capacity = scale_rest * carry_of capacity + greatest_error * capacity * (ring_degree * greatest_coefficient)
 
--- what this noise uses of the ciphertext modulus; a ciphertext opens to its plaintext where it uses less than all
-unfoldable pub used_of : ℕ → ℕ
-used_of capacity = 2 * (plain_modulus * noise_of capacity + scale_rest * greatest_coefficient)
+-- what the noise of a reply under the parameters uses of the ciphertext modulus; a ciphertext opens to its plaintext where it uses less
+-- than all
+unfoldable pub used_of : Parameters → ℕ
+used_of p = 2 * (plain_modulus * noise_of p.capacity + scale_rest * greatest_coefficient)
 
--- the ledger passes
-abbrev pub passes : ℕ → Type 0
-passes capacity = used_of capacity < cipher_modulus
+-- the ledger of the parameters passes
+abbrev pub passes : Parameters → Type 0
+passes p = used_of p < cipher_modulus

@@ -24,7 +24,7 @@ pub record Field : Type 0 where
   pub is_allowed : Bool
 
 -- the fields in their order
-abbrev pub fields : Params → List Field
+abbrev pub fields : Parameters → List Field
 fields p =
     record { offset = 0; is_allowed = p.form == 1 }
     ∷ record { offset = 1; is_allowed = is_between 1 4 p.rows }
@@ -35,36 +35,36 @@ fields p =
     ∷ []
 
 -- the offset of the first field whose value is not allowed
-abbrev pub range_fault : Params → Option ℕ
+abbrev pub range_fault : Parameters → Option ℕ
 range_fault p = option_map (λ f. f.offset) (find (λ f. not f.is_allowed) (fields p))
 
 -- the ciphertexts of a query: one for each row and power
-abbrev pub ciphertexts_of : Params → ℕ
+abbrev pub ciphertexts_of : Parameters → ℕ
 ciphertexts_of p = p.rows * p.capacity
 
 -- the cells of one bundle in each row: one for each row, plane and coefficient of a bin's polynomials
-abbrev pub cells_of : Params → ℕ
+abbrev pub cells_of : Parameters → ℕ
 cells_of p = p.rows * (1 + p.units) * (p.capacity + 1)
 
 -- a query and one bundle in each row have an allowed size
-abbrev pub has_size : Params → Bool
+abbrev pub has_size : Parameters → Bool
 has_size p = nat_le (ciphertexts_of p) 2400 && nat_le (cells_of p) 4096
 
--- the ledger of a capacity
-abbrev pub ledger_of : ℕ → Ledger
-ledger_of capacity = record { carry = carry_of capacity; noise = noise_of capacity; used = used_of capacity }
+-- the ledger of the parameters
+abbrev pub ledger_of : Parameters → Ledger
+ledger_of p = record { carry = carry_of p.capacity; noise = noise_of p.capacity; used = used_of p }
 
 -- by the noise
-abbrev pub judged_by_noise : ℕ → Result Ledger ParamFault
-judged_by_noise capacity = if nat_lt (used_of capacity) cipher_modulus then Ok (ledger_of capacity) else Err (faults.Noise (used_of capacity))
+abbrev pub judged_by_noise : Parameters → Result Ledger ParamFault
+judged_by_noise p = if nat_lt (used_of p) cipher_modulus then Ok (ledger_of p) else Err (faults.Noise (used_of p))
 
 -- by the first field that is not allowed, then by the size, then by the noise
-abbrev pub judged_by : Option ℕ → Params → Result Ledger ParamFault
+abbrev pub judged_by : Option ℕ → Parameters → Result Ledger ParamFault
 judged_by (Some offset) p = Err (faults.Range offset)
-judged_by None p = if has_size p then judged_by_noise p.capacity else Err (faults.Size (ciphertexts_of p) (cells_of p))
+judged_by None p = if has_size p then judged_by_noise p else Err (faults.Size (ciphertexts_of p) (cells_of p))
 
 -- what parameters come to: their ledger, or why they are refused
-abbrev pub judged : Params → Result Ledger ParamFault
+abbrev pub judged : Parameters → Result Ledger ParamFault
 judged p = judged_by (range_fault p) p
 
 -- each field has an allowed value
@@ -83,4 +83,4 @@ pub record ArePassed (p : Parameters) : Type 0 where
   pub ranges : AreInRange p
   pub few_ciphertexts : p.rows * p.capacity ≤ 2400
   pub few_cells : p.rows * (1 + p.units) * (p.capacity + 1) ≤ 4096
-  pub little_noise : passes p.capacity
+  pub little_noise : passes p

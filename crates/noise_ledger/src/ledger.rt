@@ -1,4 +1,4 @@
-//! The ledger of a capacity, and the check of parameters.
+//! The ledger of parameters, and their check.
 ghost use Rattle.std.specs.Prelude.{◌≡◌, ◌<◌, ◌^◌, ◌↔◌, IsNone, IsOk};
 ghost use Rattle.noise_ledger.specs.Ledgers.{carry_of, noise_of, used_of};
 ghost use Rattle.noise_ledger.specs.Verdicts.{parameters_of, range_fault, ciphertexts_of, cells_of, judged, ledger_of, AreInRange, ArePassed};
@@ -30,7 +30,7 @@ pub struct Ledger {
 }
 
 /// Why parameters are refused.
-#[derive(Clone, Copy, Debug, PartialEq, Eq)]
+#[derive(Clone, Copy, PartialEq, Eq)]
 pub enum ParamFault {
     /// A field has a value that is not allowed.
     Range {
@@ -57,7 +57,7 @@ pub enum ParamFault {
 /// 0 and spare 0. Then `Size` comes, where `rows·capacity` is above 2400 or `rows·(1 + units)·(capacity + 1)` above
 /// 4096. Then `Noise` comes, where `used` is not below the ciphertext modulus.
 pub fn check(params: &Params) -> Result<Ledger, ParamFault>
-    ensures judged { result ≡ judged params.now }
+    ensures judged { result ≡ judged (parameters_of params.now) }
     ensures passed { IsOk result ↔ ArePassed (parameters_of params.now) }
 {
     if let Some(field) = range_fault(params) {
@@ -68,7 +68,7 @@ pub fn check(params: &Params) -> Result<Ledger, ParamFault>
     if ciphertexts > CIPHERTEXTS || cells > CELLS {
         return Err(ParamFault::Size { ciphertexts, cells });
     }
-    let ledger = ledger_of(params.capacity);
+    let ledger = ledger_of(params);
     if ledger.used < Q {
         Ok(ledger)
     } else {
@@ -78,7 +78,7 @@ pub fn check(params: &Params) -> Result<Ledger, ParamFault>
 
 // The offset of the first field whose value is not allowed.
 fn range_fault(params: &Params) -> Option<u8>
-    ensures first { result ≡ range_fault params.now }
+    ensures first { result ≡ range_fault (parameters_of params.now) }
     ensures none { IsNone result ↔ AreInRange (parameters_of params.now) }
 {
     if params.form != 1 {
@@ -100,26 +100,26 @@ fn range_fault(params: &Params) -> Option<u8>
 
 // The ciphertexts of a query.
 fn ciphertexts(params: &Params) -> u32
-    ensures { result ≡ ciphertexts_of params.now }
+    ensures { result ≡ ciphertexts_of (parameters_of params.now) }
 {
     u32::from(params.rows) * u32::from(params.capacity)
 }
 
 // The cells of one bundle in each row.
 fn cells(params: &Params) -> u32
-    ensures { result ≡ cells_of params.now }
+    ensures { result ≡ cells_of (parameters_of params.now) }
 {
     u32::from(params.rows) * (1 + u32::from(params.units)) * (u32::from(params.capacity) + 1)
 }
 
-// The ledger of a capacity.
-fn ledger_of(capacity: u16) -> Ledger
-    ensures { result ≡ ledger_of capacity }
+// The ledger of the parameters.
+fn ledger_of(params: &Params) -> Ledger
+    ensures { result ≡ ledger_of (parameters_of params.now) }
 {
     Ledger {
-        carry: carry(capacity),
-        noise: noise(capacity),
-        used: used(capacity),
+        carry: carry(params.capacity),
+        noise: noise(params.capacity),
+        used: used(params),
     }
 }
 
@@ -142,10 +142,10 @@ fn noise(capacity: u16) -> u128
     u128::from(R) * carry(capacity) + ERROR * u128::from(capacity) * (N as u128 * GREATEST)
 }
 
-// What the noise uses of the ciphertext modulus.
+// What the noise of a reply uses of the ciphertext modulus.
 #[tactic(auto, unfolding(crate::specs::Ledgers::used_of))]
-fn used(capacity: u16) -> u128
-    ensures { result ≡ used_of capacity }
+fn used(params: &Params) -> u128
+    ensures { result ≡ used_of (parameters_of params.now) }
 {
-    2 * (u128::from(T) * noise(capacity) + u128::from(R) * GREATEST)
+    2 * (u128::from(T) * noise(params.capacity) + u128::from(R) * GREATEST)
 }

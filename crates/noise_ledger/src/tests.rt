@@ -86,7 +86,7 @@ fn verdicts(rt: HostRuntime) {
             drop,
             spare,
         };
-        assert_eq!(rt; check(&params), expected);
+        assert!(rt; check(&params) == expected);
     }
 }
 

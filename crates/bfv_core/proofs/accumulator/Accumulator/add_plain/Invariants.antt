@@ -1,6 +1,6 @@
 use Rattle.std.proofs.Common.{[]}
-use Rattle.bfv_core.specs.Encryptions.{IsCiphertext, list_at}
-use Rattle.bfv_core.specs.EncryptedLists.{added, scaled, list_modulus}
+use Rattle.psi_residue.specs.Ciphertexts.{IsCiphertext, list_at, list_modulus}
+use Rattle.bfv_core.specs.EncryptedLists.{added, scaled}
 use Rattle.bfv_core.proofs.Filling.{IsFilled}
 use Rattle.bfv_core.proofs.accumulator.Accumulator.add_plain.Given as goal
 

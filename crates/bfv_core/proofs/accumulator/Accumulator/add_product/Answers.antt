@@ -1,5 +1,5 @@
 use Rattle.std.proofs.Common.{arith, []}
-use Rattle.bfv_core.specs.Encryptions.{list_at}
+use Rattle.psi_residue.specs.Ciphertexts.{list_at}
 use Rattle.bfv_core.specs.EncryptedLists.{with_product, list_with_product}
 use Rattle.bfv_core.proofs.Filling.{IsFilled-all}
 use Rattle.bfv_core.proofs.FourLists.{product-more}

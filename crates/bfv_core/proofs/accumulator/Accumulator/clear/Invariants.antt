@@ -1,5 +1,5 @@
 use Rattle.std.proofs.Common.{replicate, []}
-use Rattle.bfv_core.specs.Encryptions.{IsCiphertext, list_at}
+use Rattle.psi_residue.specs.Ciphertexts.{IsCiphertext, list_at}
 use Rattle.bfv_core.proofs.Filling.{IsFilled}
 use Rattle.bfv_core.proofs.accumulator.Accumulator.clear.Given as goal
 

@@ -1,5 +1,5 @@
 use Rattle.std.proofs.Common.{arith, ◌≡◌, ◌∙◌, ap, sym, length}
-use Rattle.bfv_core.specs.Encryptions.{IsCiphertext}
+use Rattle.psi_residue.specs.Ciphertexts.{IsCiphertext}
 use Rattle.bfv_core.proofs.FourLists.{four, four_from}
 use Rattle.bfv_core.proofs.accumulator.Accumulator.read.Goals as goal
 

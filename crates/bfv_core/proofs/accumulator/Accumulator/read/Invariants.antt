@@ -1,5 +1,5 @@
 use Rattle.std.proofs.Common.{◌≡◌, ◌<◌, ℕ}
-use Rattle.bfv_core.specs.Encryptions.{IsCiphertext, list_at}
+use Rattle.psi_residue.specs.Ciphertexts.{IsCiphertext, list_at}
 use Rattle.bfv_core.proofs.accumulator.Accumulator.read.Given as goal
 
 abbrev pub invariant-loop-list : goal.invariant-loop-list
