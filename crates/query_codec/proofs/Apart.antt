@@ -1,11 +1,10 @@
 -- Where a body ends is told by its own bytes.
-use Rattle.std.proofs.Common.{◌≡◌, ℕ, zero, suc, ◌+◌, ◌*◌, ◌^◌, ◌≤◌, ◌<◌, List, [], ◌∷◌, ◌++◌, length, map, drop, get_or, refl, sym, ap, ◌∙◌, arith, length-append, length-drop}
+use Rattle.std.proofs.Common.{◌≡◌, ℕ, zero, suc, ◌+◌, ◌*◌, ◌≤◌, List, [], ◌∷◌, ◌++◌, length, map, drop, refl, ap, ◌∙◌, arith, length-append, length-drop}
 use Rattle.std.specs.List.{range_with_len}
 use Rattle.std.proofs.Math.ListN.{get_or-append}
 use Rattle.std.proofs.lemmas.List.{drop-append-le, nil_from_length}
 use Rattle.byteorder.specs.Endian.{big_from, big_number}
 use Rattle.psi_residue.specs.Parameters.{Parameters}
-use Rattle.query_codec.specs.Ciphertexts.{ciphertext_size}
 use Rattle.query_codec.specs.Queries.{IsQuery}
 use Rattle.query_codec.specs.Replies.{IsReply, row_count, reply_counts, reply_length}
 

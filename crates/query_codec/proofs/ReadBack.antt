@@ -8,11 +8,9 @@ use Rattle.byteorder.specs.Endian.{big_number, big_bytes}
 use Rattle.byteorder.specs.Numbers.{big_number-reads_back, length-bytes_high_first}
 use Rattle.psi_residue.specs.Polynomials.{IsPolynomial}
 use Rattle.psi_residue.proofs.Sums.{slice_index-table}
-use Rattle.psi_bundle.specs.Bodies.{modulus_at, residue_bytes}
-use Rattle.bfv_core.specs.Encryptions.{IsCiphertext, list_at}
-use Rattle.bfv_core.specs.EncryptedLists.{list_modulus}
+use Rattle.psi_residue.specs.Ciphertexts.{IsCiphertext, list_at, list_modulus}
 use Rattle.bfv_core.proofs.FourLists.{list-polynomial}
-use Rattle.query_codec.specs.Ciphertexts.{AreCiphertexts, residue_in, list_in, ciphertext_in, ciphertexts_in, ciphertext_bytes, ciphertexts_bytes}
+use Rattle.query_codec.specs.Ciphertexts.{AreCiphertexts, residue_in, modulus_at, list_in, ciphertext_in, ciphertexts_in, residue_bytes, ciphertext_bytes, ciphertexts_bytes}
 use Rattle.query_codec.proofs.Pieces.{piece_at, length-pieces}
 use Rattle.query_codec.proofs.Residues.{list_in-from, modulus_of_list}
 

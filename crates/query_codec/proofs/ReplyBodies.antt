@@ -1,26 +1,25 @@
 -- The body of a reply as a header, numbers of bundles and ciphertexts.
-use Rattle.std.proofs.Common.{◌≡◌, ℕ, ◌+◌, ◌-◌, ◌*◌, ◌<◌, ◌≤◌, List, [], ◌∷◌, ◌++◌, Option, None, Some, not, Bool, true, false, nat_le, nat_eq, eq-eqb, if◌then◌else◌, length, take, drop, map, get_or, refl, ap, sym, subst, ◌∙◌, arith, append_assoc, length-append, length-drop}
+use Rattle.std.proofs.Common.{◌≡◌, ℕ, ◌+◌, ◌-◌, ◌*◌, ◌<◌, ◌≤◌, List, [], ◌∷◌, ◌++◌, None, Some, not, true, nat_le, nat_eq, eq-eqb, if◌then◌else◌, length, take, drop, map, get_or, refl, ap, sym, subst, ◌∙◌, arith, append_assoc, length-append, length-drop}
 use Rattle.std.specs.List.{All, flat_map, range_with_len, sum}
 use Rattle.std.specs.Option.{option_map}
-use Rattle.std.specs.Cmp.Lexicographic.{pointwise, same_text}
+use Rattle.std.specs.Cmp.Lexicographic.{pointwise}
 use Rattle.std.proofs.Math.Seq.{drop-append_seam}
-use Rattle.std.proofs.lemmas.Bool.{eqb-true, leb-true, le-leb}
+use Rattle.std.proofs.lemmas.Bool.{le-leb}
 use Rattle.std.proofs.lemmas.List.{drop-drop, take-append-drop}
 use Rattle.std.proofs.lemmas.List.Folds.{flat_map-map}
 use Rattle.std.proofs.lemmas.List.FromFn.{fill_by_all, map-range_with_len_more, sum_by-map-range_with_len_more}
 use Rattle.byteorder.specs.Endian.{big_number, big_bytes}
 use Rattle.byteorder.specs.Numbers.{big_number-reads_back, length-bytes_high_first}
 use Rattle.psi_residue.specs.Parameters.{Parameters, parameter_bytes}
-use Rattle.bfv_core.specs.Encryptions.{IsCiphertext}
-use Rattle.query_codec.specs.declared.fault.CodecFault.{CodecFault}
+use Rattle.psi_residue.specs.Ciphertexts.{IsCiphertext}
 use Rattle.query_codec.specs.declared.fault.CodecFault.TheVariants as faults
 use Rattle.query_codec.specs.Ciphertexts.{AreCiphertexts, ciphertexts_in, ciphertexts_bytes, wrong_residue}
 use Rattle.query_codec.specs.Replies.{IsReply, row_count, reply_counts, planes_of, reply_head, reply_length, reply_ciphertexts, reply_fault, reply_bytes}
 use Rattle.query_codec.proofs.BigBytes.{big_bytes-big_number}
 use Rattle.query_codec.proofs.Pieces.{pieces, piece_at, length-pieces}
-use Rattle.query_codec.proofs.QueryBodies.{all_behind, same-pointwise}
+use Rattle.query_codec.proofs.QueryBodies.{behind-same, same-pointwise}
 use Rattle.query_codec.proofs.ReadBack.{read_back, AreCiphertexts-written}
-use Rattle.query_codec.proofs.Residues.{below-none_wrong, none_wrong}
+use Rattle.query_codec.proofs.Residues.{none_wrong}
 use Rattle.query_codec.proofs.Spellings.{spelled_ciphertexts, bytes_from}
 
 -- ---- the numbers of bundles
@@ -41,60 +40,26 @@ planes-is p body bundles e = ap (λ (n : ℕ). (1 + p.units) * n) (e ∙ ap sum 
 
 -- ---- the faults
 
--- no fault is none of four
-none_of_four : (a b d : Bool) (o : Option ℕ) (first second third : CodecFault) → (if not a then Some first else (if not b then Some second else (if not d then Some third else option_map faults.Residue o))) ≡ None
-    → (a ≡ true) × (b ≡ true) × (d ≡ true) × (o ≡ None)
-none_of_four true true true None first second third h = (refl, refl, refl, refl)
-none_of_four true true true (Some i) first second third h = absurd cc
-none_of_four true true false o first second third h = absurd cc
-none_of_four true false d o first second third h = absurd cc
-none_of_four false b d o first second third h = absurd cc
-
-pub IsReply-no_fault : (p : Parameters) (body : List ℕ) → reply_fault p body ≡ None → IsReply p body
-IsReply-no_fault p body h =
+-- the fault of a body of the right length and header is that of its residues
+pub reply_fault_of_residues : (p : Parameters) (body : List ℕ) → reply_head p ≤ length body → take 8 body ≡ parameter_bytes p → length body ≡ reply_length p (reply_counts p body)
+    → reply_fault p body ≡ option_map faults.Residue (wrong_residue (drop (reply_head p) body) (16384 * planes_of p (reply_counts p body)))
+reply_fault_of_residues p body within header size =
     let want = reply_length p (reply_counts p body) in
-    let wrong = wrong_residue (drop (reply_head p) body) (16384 * planes_of p (reply_counts p body)) in
-    let each = none_of_four (nat_le (reply_head p) (length body)) (pointwise nat_eq (take 8 body) (parameter_bytes p)) (nat_eq (length body) want) wrong (faults.Length (reply_head p)) faults.WrongParams (faults.Length want) h in
-    record {
-      head = leb-true (reply_head p) (length body) each.0;
-      header = same_text (take 8 body) (parameter_bytes p) (sym each.1);
-      size = eqb-true (length body) want each.2;
-      fit = λ i lt. below-none_wrong (drop (reply_head p) body) (16384 * planes_of p (reply_counts p body)) i each.3 lt;
-    }
+    let long : nat_le (reply_head p) (length body) ≡ true = le-leb (reply_head p) (length body) within in
+    let headed : pointwise nat_eq (take 8 body) (parameter_bytes p) ≡ true = same-pointwise (take 8 body) (parameter_bytes p) header in
+    let sized : nat_eq (length body) want ≡ true = eq-eqb (length body) want size in
+    (λ i. if not (long i) then Some (faults.Length (reply_head p)) else (if not (headed i) then Some faults.WrongParams else (if not (sized i) then Some (faults.Length want) else option_map faults.Residue (wrong_residue (drop (reply_head p) body) (16384 * planes_of p (reply_counts p body))))))
 
 pub no_fault-IsReply : (p : Parameters) (body : List ℕ) → IsReply p body → reply_fault p body ≡ None
 no_fault-IsReply p body r =
-    let want = reply_length p (reply_counts p body) in
-    let long : nat_le (reply_head p) (length body) ≡ true = le-leb (reply_head p) (length body) r.head in
-    let header : pointwise nat_eq (take 8 body) (parameter_bytes p) ≡ true = same-pointwise (take 8 body) (parameter_bytes p) r.header in
-    let size : nat_eq (length body) want ≡ true = eq-eqb (length body) want r.size in
-    let fit = none_wrong (drop (reply_head p) body) (16384 * planes_of p (reply_counts p body)) r.fit in
-    (λ i. if not (long i) then Some (faults.Length (reply_head p)) else (if not (header i) then Some faults.WrongParams else (if not (size i) then Some (faults.Length want) else option_map faults.Residue (sym fit i))))
-
--- the fault of a body of the right length and header
-pub reply_fault_of_residues : (p : Parameters) (body : List ℕ) (head planes : ℕ) → head ≡ reply_head p → planes ≡ planes_of p (reply_counts p body) → reply_head p ≤ length body → true ≡ pointwise nat_eq (take 8 body) (parameter_bytes p)
-    → length body ≡ head + 81920 * planes → option_map faults.Residue (wrong_residue (take (length body - head) (drop head body)) (16384 * planes)) ≡ reply_fault p body
-reply_fault_of_residues p body head planes head-is planes-are within header size =
-    let want = reply_length p (reply_counts p body) in
-    let long : nat_le (reply_head p) (length body) ≡ true = le-leb (reply_head p) (length body) within in
-    let sized : nat_eq (length body) want ≡ true = eq-eqb (length body) want (size ∙ (λ i. head-is i + 81920 * planes-are i)) in
-    ap (λ (xs : List ℕ). option_map faults.Residue (wrong_residue xs (16384 * planes))) (all_behind head body)
-    ∙ (λ i. option_map faults.Residue (wrong_residue (drop (head-is i) body) (16384 * planes-are i)))
-    ∙ sym (λ i. if not (long i) then Some (faults.Length (reply_head p)) else (if not (sym header i) then Some faults.WrongParams else (if not (sized i) then Some (faults.Length want) else option_map faults.Residue (wrong_residue (drop (reply_head p) body) (16384 * planes_of p (reply_counts p body))))))
-
--- the fault of a body whose header is right, but whose length is not
-pub reply_fault_of_size : (p : Parameters) (body : List ℕ) (want : ℕ) → want ≡ reply_length p (reply_counts p body) → reply_head p ≤ length body → true ≡ pointwise nat_eq (take 8 body) (parameter_bytes p)
-    → (length body ≡ want → ⊥) → Some (faults.Length want) ≡ reply_fault p body
-reply_fault_of_size p body want e within header other = sized (nat_eq (length body) (reply_length p (reply_counts p body))) refl
-  where
-    sized : (b : Bool) → nat_eq (length body) (reply_length p (reply_counts p body)) ≡ b → Some (faults.Length want) ≡ reply_fault p body
-    sized true same = absurd (other (eqb-true (length body) (reply_length p (reply_counts p body)) same ∙ sym e))
-    sized false differs =
-        let long : nat_le (reply_head p) (length body) ≡ true = le-leb (reply_head p) (length body) within in
-        ap (λ (n : ℕ). Some (faults.Length n)) e
-        ∙ sym (λ i. if not (long i) then Some (faults.Length (reply_head p)) else (if not (sym header i) then Some faults.WrongParams else (if not (differs i) then Some (faults.Length (reply_length p (reply_counts p body))) else option_map faults.Residue (wrong_residue (drop (reply_head p) body) (16384 * planes_of p (reply_counts p body))))))
+    reply_fault_of_residues p body r.head r.header r.size
+    ∙ ap (λ o. option_map faults.Residue o) (none_wrong (drop (reply_head p) body) (16384 * planes_of p (reply_counts p body)) r.fit)
 
 -- ---- what a body says
+
+pub IsReply-from : (p : Parameters) (body : List ℕ) → reply_head p ≤ length body → take 8 body ≡ parameter_bytes p → length body ≡ reply_length p (reply_counts p body)
+    → AreCiphertexts (drop (reply_head p) body) (planes_of p (reply_counts p body)) → IsReply p body
+IsReply-from p body head header size are = record { head = head; header = header; size = size; fit = are.fit }
 
 pub AreCiphertexts-reply : (p : Parameters) (body : List ℕ) → IsReply p body → AreCiphertexts (drop (reply_head p) body) (planes_of p (reply_counts p body))
 AreCiphertexts-reply p body r = record {
@@ -110,8 +75,7 @@ AreCiphertexts-reply p body r = record {
 
 pub reply_ciphertexts-is : (p : Parameters) (body : List ℕ) (head planes : ℕ) → head ≡ reply_head p → planes ≡ planes_of p (reply_counts p body) → ciphertexts_in (take (length body - head) (drop head body)) planes ≡ reply_ciphertexts p body
 unfolding reply_ciphertexts
-reply_ciphertexts-is p body head planes head-is planes-are =
-    ap (λ (xs : List ℕ). ciphertexts_in xs planes) (all_behind head body) ∙ (λ i. ciphertexts_in (drop (head-is i) body) (planes-are i))
+reply_ciphertexts-is p body head planes head-is planes-are = behind-same ciphertexts_in body head (reply_head p) planes (planes_of p (reply_counts p body)) head-is planes-are
 
 -- the numbers, written again
 spelled_counts : (body : List ℕ) (rows : ℕ) → 8 + 2 * rows ≤ length body → ((i : ℕ) → get_or body i 0 < 256) → flat_map (big_bytes 2) (map (row_count body) (range_with_len 0 rows)) ≡ take (2 * rows) (drop 8 body)

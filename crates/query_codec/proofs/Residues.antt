@@ -1,49 +1,60 @@
 -- The residues of ciphertexts as bytes.
-use Rattle.std.proofs.Common.{◌≡◌, ℕ, ◌+◌, ◌*◌, ◌/◌, ◌%◌, ◌<◌, ◌≤◌, List, [], ◌∷◌, ◌++◌, None, Some, not, Bool, true, false, nat_lt, nat_eq, length, get_or, refl, ap, sym, subst, ◌∙◌, arith, if◌then◌else◌}
+use Rattle.std.proofs.Common.{◌≡◌, ℕ, ◌+◌, ◌*◌, ◌/◌, ◌%◌, ◌<◌, ◌≤◌, List, [], ◌∷◌, ◌++◌, None, Some, not, nat_lt, nat_eq, length, get_or, refl, ap, sym, subst, ◌∙◌, ◌⊎◌, inl, inr, arith, if◌then◌else◌}
 use Rattle.std.specs.Option.{option_map}
-use Rattle.query_codec.specs.declared.fault.CodecFault.TheVariants as faults
-use Rattle.std.proofs.lemmas.Bool.{lt-ltb, le-ltb, ltb-true}
+use Rattle.std.proofs.lemmas.Bool.{cases_lt, lt-ltb, le-ltb}
 use Rattle.std.proofs.lemmas.List.FromFn.{map-range_with_len_more}
 use Rattle.psi_residue.specs.Numbers.{first_modulus, second_modulus}
 use Rattle.psi_residue.specs.Polynomials.{IsPolynomial}
 use Rattle.psi_residue.proofs.Sums.{length-table, slice_index-table, same_as_table}
-use Rattle.psi_bundle.specs.Bodies.{modulus_at}
-use Rattle.bfv_core.specs.EncryptedLists.{list_modulus}
-use Rattle.query_codec.specs.Ciphertexts.{AreCiphertexts, residue_in, list_in, ciphertext_in, ciphertexts_in, wrong_residue}
-use Rattle.query_codec.proofs.Finding.{find-none, find-first, none-found}
+use Rattle.psi_residue.specs.Ciphertexts.{list_modulus}
+use Rattle.query_codec.specs.declared.fault.CodecFault.{CodecFault}
+use Rattle.query_codec.specs.declared.fault.CodecFault.TheVariants as faults
+use Rattle.query_codec.specs.Ciphertexts.{AreBelow, IsFirstWrong, residue_in, modulus_at, list_in, ciphertext_in, ciphertexts_in, wrong_residue}
+use Rattle.query_codec.proofs.Finding.{find-none, find-first}
 
--- a residue that is not below its modulus, and none before it
-pub first_wrong : (bytes : List ℕ) (n i : ℕ) → i < n → ((k : ℕ) → k < i → residue_in bytes k < modulus_at k) → modulus_at i ≤ residue_in bytes i → Some i ≡ wrong_residue bytes n
+-- the first residue that is not below its modulus
+pub first_wrong : (bytes : List ℕ) (n i : ℕ) → IsFirstWrong bytes 0 n i → wrong_residue bytes n ≡ Some i
 unfolding wrong_residue
-first_wrong bytes n i lt before here =
+first_wrong bytes n i h =
     let test = λ (k : ℕ). not (nat_lt (residue_in bytes k) (modulus_at k)) in
     let e : 0 + i ≡ i = omega arith in
-    ap (λ (k : ℕ). Some k) (sym e)
-    ∙ sym (find-first test 0 n i lt (λ k low high. ap not (lt-ltb (residue_in bytes k) (modulus_at k) (before k (omega arith))))
-    (ap test e ∙ ap not (le-ltb (residue_in bytes i) (modulus_at i) here)))
-
-pub first_fault : (bytes : List ℕ) (n i : ℕ) → i < n → ((k : ℕ) → k < i → residue_in bytes k < modulus_at k) → modulus_at i ≤ residue_in bytes i → Some (faults.Residue i) ≡ option_map faults.Residue (wrong_residue bytes n)
-first_fault bytes n i lt before here = ap (λ o. option_map faults.Residue o) (first_wrong bytes n i lt before here)
+    find-first test 0 n i h.within (λ k low high. ap not (lt-ltb (residue_in bytes k) (modulus_at k) (h.before k low (omega arith))))
+    (ap test e ∙ ap not (le-ltb (residue_in bytes i) (modulus_at i) h.wrong))
+    ∙ ap (λ (k : ℕ). Some k) e
 
 -- each residue is below its modulus
-pub none_wrong : (bytes : List ℕ) (n : ℕ) → ((k : ℕ) → k < n → residue_in bytes k < modulus_at k) → None ≡ wrong_residue bytes n
+pub none_wrong : (bytes : List ℕ) (n : ℕ) → ((k : ℕ) → k < n → residue_in bytes k < modulus_at k) → wrong_residue bytes n ≡ None
 unfolding wrong_residue
 none_wrong bytes n each =
-    sym (find-none (λ (k : ℕ). not (nat_lt (residue_in bytes k) (modulus_at k))) 0 n (λ k low high. ap not (lt-ltb (residue_in bytes k) (modulus_at k) (each k (omega arith)))))
+    find-none (λ (k : ℕ). not (nat_lt (residue_in bytes k) (modulus_at k))) 0 n (λ k low high. ap not (lt-ltb (residue_in bytes k) (modulus_at k) (each k (omega arith))))
 
-pub no_fault : (bytes : List ℕ) (n : ℕ) → ((k : ℕ) → k < n → residue_in bytes k < modulus_at k) → None ≡ option_map faults.Residue (wrong_residue bytes n)
-no_fault bytes n each = ap (λ o. option_map faults.Residue o) (none_wrong bytes n each)
+-- residues from a to b, and from there to c
+pub AreBelow-joined : (bytes : List ℕ) (a b c : ℕ) → AreBelow bytes a b → AreBelow bytes b c → AreBelow bytes a c
+AreBelow-joined bytes a b c front back i low high = elim (cases_lt i b) [ inl lt ↦ front i low lt | inr le ↦ back i le high ]
 
-is_not : (b : Bool) → not b ≡ false → b ≡ true
-is_not true h = refl
-is_not false h = absurd cc
+pub AreBelow-more : (bytes : List ℕ) (a b : ℕ) → AreBelow bytes a b → residue_in bytes b < modulus_at b → AreBelow bytes a (b + 1)
+AreBelow-more bytes a b front here i low high =
+    elim (cases_lt i b) [
+      | inl lt ↦ front i low lt
+      | inr le ↦ let same : b ≡ i = omega arith in subst (λ (k : ℕ). residue_in bytes k < modulus_at k) same here
+    ]
 
-pub below-none_wrong : (bytes : List ℕ) (n i : ℕ) → wrong_residue bytes n ≡ None → i < n → residue_in bytes i < modulus_at i
-unfolding wrong_residue
-below-none_wrong bytes n i h lt =
-    let test = λ (k : ℕ). not (nat_lt (residue_in bytes k) (modulus_at k)) in
-    let e : 0 + i ≡ i = omega arith in
-    ltb-true (residue_in bytes i) (modulus_at i) (is_not _ (ap test (sym e) ∙ none-found test 0 n i h lt))
+pub IsFirstWrong-later : (bytes : List ℕ) (a b c d i : ℕ) → a ≤ b → c ≤ d → AreBelow bytes a b → IsFirstWrong bytes b c i → IsFirstWrong bytes a d i
+IsFirstWrong-later bytes a b c d i low high front h = record {
+  from = let from = h.from in omega arith;
+  within = let within = h.within in omega arith;
+  before = AreBelow-joined bytes a b i front h.before;
+  wrong = h.wrong;
+}
+
+-- the fault of one ciphertext is that of all, where those before it have none
+pub fault_within : (bytes : List ℕ) (n c : ℕ) (fault : CodecFault) → c < n → AreBelow bytes 0 (16384 * c)
+    → (fault ≡ faults.NoMemory) ⊎ ((i : ℕ) × (fault ≡ faults.Residue i) × IsFirstWrong bytes (16384 * c) (16384 * (c + 1)) i)
+    → (fault ≡ faults.NoMemory) ⊎ (option_map faults.Residue (wrong_residue bytes (16384 * n)) ≡ Some fault)
+fault_within bytes n c fault lt front (inl none) = inl none
+fault_within bytes n c fault lt front (inr h) =
+    inr (ap (λ o. option_map faults.Residue o) (first_wrong bytes (16384 * n) h.0 (IsFirstWrong-later bytes 0 (16384 * c) (16384 * (c + 1)) (16384 * n) h.0 (omega arith) (omega arith) front h.2))
+    ∙ ap (λ (f : CodecFault). Some f) (sym h.1))
 
 -- a list, residue by residue
 pub list_in-from : (bytes : List ℕ) (k : ℕ) (xs : List ℕ) → length xs ≡ 4096 → ((i : ℕ) → i < 4096 → get_or xs i 0 ≡ residue_in bytes (4096 * k + i)) → xs ≡ list_in bytes k
@@ -57,13 +68,13 @@ modulus_of_list c l i few lt =
     ap (λ (u : ℕ). if nat_eq u 0 then first_modulus else second_modulus) e
 
 -- each list is a polynomial modulo its modulus
-pub list_in-polynomial : (bytes : List ℕ) (n c l : ℕ) → AreCiphertexts bytes n → c < n → l < 4 → IsPolynomial (list_modulus l) (list_in bytes (4 * c + l))
+pub list_in-polynomial : (bytes : List ℕ) (c l : ℕ) → l < 4 → AreBelow bytes (4096 * (4 * c + l)) (4096 * (4 * c + l + 1)) → IsPolynomial (list_modulus l) (list_in bytes (4 * c + l))
 unfolding list_in
-list_in-polynomial bytes n c l are within few =
+list_in-polynomial bytes c l few below =
     let residue = λ (i : ℕ). residue_in bytes (4096 * (4 * c + l) + i) in
     record {
       size = length-table 4096 residue;
-      below = λ i lt. rw (slice_index-table 4096 residue i lt) (subst (λ (m : ℕ). residue i < m) (modulus_of_list c l i few lt) (are.fit (4096 * (4 * c + l) + i) (omega arith)));
+      below = λ i lt. rw (slice_index-table 4096 residue i lt) (subst (λ (m : ℕ). residue i < m) (modulus_of_list c l i few lt) (below (4096 * (4 * c + l) + i) (omega arith) (omega arith)));
     }
 
 -- ciphertexts, one by one

@@ -5,8 +5,7 @@ use Rattle.std.proofs.lemmas.List.{get_or-drop, take_all}
 use Rattle.std.proofs.lemmas.List.Folds.{flat_map-map}
 use Rattle.byteorder.specs.Endian.{big_bytes}
 use Rattle.psi_residue.specs.Sums.{table}
-use Rattle.psi_bundle.specs.Bodies.{residue_bytes}
-use Rattle.query_codec.specs.Ciphertexts.{AreCiphertexts, residue_in, list_in, ciphertext_in, ciphertexts_in, ciphertext_bytes, ciphertexts_bytes}
+use Rattle.query_codec.specs.Ciphertexts.{AreCiphertexts, residue_in, list_in, ciphertext_in, ciphertexts_in, residue_bytes, ciphertext_bytes, ciphertexts_bytes}
 use Rattle.query_codec.proofs.BigBytes.{big_bytes-big_number}
 use Rattle.query_codec.proofs.Pieces.{pieces, pieces_of}
 

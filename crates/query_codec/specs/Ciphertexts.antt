@@ -1,6 +1,6 @@
 -- Ciphertexts as bytes, one after another. A ciphertext is four lists of 4096 residues of 5 bytes, the highest byte first: c0 modulo
 -- the first and the second modulus, then c1 modulo these (the layout is this project's own).
-use Rattle.std.specs.Prelude.{◌≡◌, ℕ, ◌+◌, ◌*◌, ◌/◌, ◌<◌, nat_lt, not, List, length, map, drop, Option}
+use Rattle.std.specs.Prelude.{◌≡◌, ℕ, ◌+◌, ◌*◌, ◌/◌, ◌<◌, ◌≤◌, nat_lt, not, List, length, map, drop, Option}
 use Rattle.std.specs.List.{find, flat_map, range_with_len}
 use Rattle.byteorder.specs.Endian.{big_number, big_bytes}
 use Rattle.psi_residue.specs.Numbers.{ring_degree}
@@ -34,6 +34,17 @@ ciphertexts_in bytes n = map (ciphertext_in bytes) (range_with_len 0 n)
 -- the number of the first of n residues that is not below its modulus
 unfoldable pub wrong_residue : List ℕ → ℕ → Option ℕ
 wrong_residue bytes n = find (λ i. not (nat_lt (residue_in bytes i) (modulus_at i))) (range_with_len 0 n)
+
+-- residues a to b - 1 are below their moduli
+abbrev pub AreBelow : List ℕ → (a b : ℕ) → Type 0
+AreBelow bytes a b = (i : ℕ) → a ≤ i → i < b → residue_in bytes i < modulus_at i
+
+-- of residues a to b - 1 number i is the first that is not below its modulus
+pub record IsFirstWrong (bytes : List ℕ) (a b i : ℕ) : Type 0 where
+  pub from : a ≤ i
+  pub within : i < b
+  pub before : AreBelow bytes a i
+  pub wrong : modulus_at i ≤ residue_in bytes i
 
 -- the bytes are n ciphertexts
 pub record AreCiphertexts (bytes : List ℕ) (n : ℕ) : Type 0 where

@@ -1,15 +1,12 @@
 //! Ciphertexts as bytes: four lists of 4096 residues of 5 bytes each.
-ghost use Rattle.std.specs.Prelude.{◌≡◌, ◌<◌, ◌≤◌, ◌+◌, ◌*◌, ◌++◌, ℕ, IfOk, OnOk, length};
+ghost use Rattle.std.specs.Prelude.{◌≡◌, ℕ, ◌≤◌, ◌+◌, ◌*◌, ◌++◌, ◌⊎◌, Some, IfOk, OnOk, IfErr, length};
 ghost use Rattle.psi_residue.specs.Numbers.{ring_degree};
-ghost use Rattle.psi_residue.specs.Polynomials.{IsPolynomial};
+ghost use Rattle.psi_residue.specs.Ciphertexts.{IsCiphertext};
 ghost use Rattle.std.specs.List.{All};
 ghost use Rattle.std.specs.Option.{option_map};
-ghost use Rattle.query_codec.specs.declared.fault.CodecFault.TheVariants.{Residue};
 ghost use Rattle.byteorder.specs.Endian.{big_bytes};
-ghost use Rattle.psi_bundle.specs.Bodies.{modulus_at, residue_bytes};
-ghost use Rattle.bfv_core.specs.Encryptions.{IsCiphertext};
-ghost use Rattle.bfv_core.specs.EncryptedLists.{list_modulus};
-ghost use Rattle.query_codec.specs.Ciphertexts.{AreCiphertexts, ciphertext_bytes, ciphertexts_bytes, ciphertext_in, ciphertext_size, ciphertexts_in, list_in, residue_in, wrong_residue};
+ghost use Rattle.query_codec.specs.declared.fault.CodecFault.TheVariants.{NoMemory, Residue};
+ghost use Rattle.query_codec.specs.Ciphertexts.{AreBelow, AreCiphertexts, IsFirstWrong, ciphertext_bytes, ciphertexts_bytes, ciphertext_in, ciphertext_size, ciphertexts_in, list_in, modulus_at, residue_bytes, residue_in, wrong_residue};
 
 use crate::fault::CodecFault;
 use bfv_core::Ciphertext;
@@ -20,66 +17,64 @@ use std::alloc::{AllocError, Global};
 // The bytes of a residue.
 const RESIDUE_BYTES: usize = 5;
 
-/// The residues of a ciphertext.
-pub const RESIDUES: usize = 4 * N;
-
 /// The bytes of a ciphertext.
-pub const CIPHERTEXT_BYTES: usize = RESIDUES * RESIDUE_BYTES;
+pub const CIPHERTEXT_BYTES: usize = 4 * N * RESIDUE_BYTES;
 
-/// The fault of the first of `count` residues that is not below its modulus.
-#[tactic(auto, using(crate::proofs::Residues::first_fault, crate::proofs::Residues::no_fault))]
-pub fn residue_fault(bytes: &[u8], count: usize) -> Option<CodecFault>
-    requires { 5 * count ≤ length bytes.now }
-    ensures { result ≡ option_map Residue (wrong_residue bytes.now count) }
-{
-    for i in 0..count {
-        if residue(bytes, i) >= modulus_at(i) {
-            return Some(CodecFault::Residue { index: i as u64 });
-        }
-    }
-    None
-}
-
-/// The ciphertexts that the bytes are, `count` of them.
+/// The ciphertexts that the bytes are, `count` of them. It fails, but for want of memory, exactly where a residue is not
+/// below its modulus, with the first such residue.
 pub fn read_ciphertexts(
     alloc: Global,
     bytes: &[u8],
     count: usize,
-) -> Result<Vec<Ciphertext>, AllocError>
-    requires { AreCiphertexts bytes.now count }
-    ensures { IfOk result (λ cts. cts.items ≡ ciphertexts_in bytes.now count) }
+) -> Result<Vec<Ciphertext>, CodecFault>
+    requires { length bytes.now ≡ ciphertext_size * count }
+    ensures read { IfOk result (λ cts. cts.items ≡ ciphertexts_in bytes.now count) }
+    ensures whole { OnOk result (AreCiphertexts bytes.now count) }
+    ensures fault { IfErr result (λ fault. (fault ≡ NoMemory) ⊎ (option_map Residue (wrong_residue bytes.now (4 * ring_degree * count)) ≡ Some fault)) }
 {
     let mut cts = Vec::with_capacity(alloc, count)?;
     for c in 0..count {
-        cts.push(read_ciphertext(alloc, bytes, c)?)?;
+        let ct = read_ciphertext(alloc, bytes, c)?;
+        cts.push(ct).map_err(AllocError::from)?;
     }
     Ok(cts)
 }
 
 // Ciphertext number `c` of the bytes.
-fn read_ciphertext(alloc: Global, bytes: &[u8], c: usize) -> Result<Ciphertext, AllocError>
-    requires within { ciphertext_size * (c + 1) ≤ length bytes.now }
-    requires fit { (l : ℕ) → l < 4 → IsPolynomial (list_modulus l) (list_in bytes.now (4 * c + l)) }
-    ensures { IfOk result (λ ct. ct ≡ ciphertext_in bytes.now c) }
+fn read_ciphertext(alloc: Global, bytes: &[u8], c: usize) -> Result<Ciphertext, CodecFault>
+    requires { ciphertext_size * (c + 1) ≤ length bytes.now }
+    ensures read { IfOk result (λ ct. ct ≡ ciphertext_in bytes.now c) }
+    ensures below { OnOk result (AreBelow bytes.now (4 * ring_degree * c) (4 * ring_degree * (c + 1))) }
+    ensures fault { IfErr result (λ fault. (fault ≡ NoMemory) ⊎ ((i : ℕ) × (fault ≡ Residue i) × IsFirstWrong bytes.now (4 * ring_degree * c) (4 * ring_degree * (c + 1)) i)) }
 {
     let mut ct = Ciphertext::zero(alloc)?;
     let mut residues = [0; N];
     for list in 0..4u8 {
-        read_list(bytes, 4 * c + list as usize, &mut residues);
+        read_list(bytes, 4 * c + list as usize, &mut residues)?;
         ct.set(list, &residues);
     }
     Ok(ct)
 }
 
 // Writes list number `k` of the residues.
-fn read_list(bytes: &[u8], k: usize, out: &mut [u64])
-    requires places { length out.now ≡ ring_degree }
+fn read_list(bytes: &[u8], k: usize, out: &mut [u64]) -> Result<(), CodecFault>
+    requires places { length out.old ≡ ring_degree }
     requires within { 5 * (ring_degree * (k + 1)) ≤ length bytes.now }
-    ensures { out.new ≡ list_in bytes.now k }
+    ensures read { OnOk result (out.new ≡ list_in bytes.now k) }
+    ensures below { OnOk result (AreBelow bytes.now (ring_degree * k) (ring_degree * (k + 1))) }
+    ensures fault { IfErr result (λ fault. (i : ℕ) × (fault ≡ Residue i) × IsFirstWrong bytes.now (ring_degree * k) (ring_degree * (k + 1)) i) }
 {
     for (i, place) in out.iter_mut().enumerate() {
-        *place = residue(bytes, N * k + i);
+        let index = N * k + i;
+        let residue = residue(bytes, index);
+        if residue >= modulus_at(index) {
+            return Err(CodecFault::Residue {
+                index: index as u64,
+            });
+        }
+        *place = residue;
     }
+    Ok(())
 }
 
 // Residue number `i`: five bytes, the highest first.

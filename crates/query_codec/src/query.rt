@@ -1,12 +1,11 @@
 //! The bodies of queries.
-ghost use Rattle.std.specs.Prelude.{◌≡◌, ◌≤◌, ◌*◌, ◌⊎◌, Some, length, IfOk, OnOk, IfErr};
+ghost use Rattle.std.specs.Prelude.{◌≡◌, ◌≤◌, ◌*◌, ◌⊎◌, Some, length, take, IfOk, OnOk, IfErr};
+ghost use Rattle.psi_residue.specs.Parameters.{parameter_bytes};
 ghost use Rattle.noise_ledger.specs.Verdicts.{parameters_of, ArePassed};
 ghost use Rattle.query_codec.specs.declared.fault.CodecFault.TheVariants.{NoMemory};
-ghost use Rattle.query_codec.specs.Queries.{IsQuery, query_body, query_ciphertexts, query_fault};
+ghost use Rattle.query_codec.specs.Queries.{IsQuery, query_body, query_ciphertexts, query_fault, query_length};
 
-use crate::ciphertexts::{
-    CIPHERTEXT_BYTES, RESIDUES, append_ciphertexts, read_ciphertexts, residue_fault,
-};
+use crate::ciphertexts::{CIPHERTEXT_BYTES, append_ciphertexts, read_ciphertexts};
 use crate::fault::CodecFault;
 use crate::header::{HEADER, has_header};
 use bfv_core::Ciphertext;
@@ -32,10 +31,8 @@ pub fn read_query(
     ensures fault { IfErr result (λ fault. (fault ≡ NoMemory) ⊎ (query_fault (parameters_of params.now) body.now ≡ Some fault)) }
     ensures refused { IfErr result (λ fault. (fault ≡ NoMemory → ⊥) → IsQuery (parameters_of params.now) body.now → ⊥) }
 {
-    if let Some(fault) = query_fault(params, body) {
-        return Err(fault);
-    }
-    Ok(read_ciphertexts(alloc, &body[HEADER..], ciphertexts(params))?)
+    test_head(params, body)?;
+    read_ciphertexts(alloc, &body[HEADER..], ciphertexts(params))
 }
 
 /// The body of a query of these ciphertexts, one for each row and power. The parameters are passed ones. Reading it gives
@@ -57,20 +54,21 @@ pub fn write_query(
     Ok(body)
 }
 
-// The first fault of a query body.
-fn query_fault(params: &Params, body: &[u8]) -> Option<CodecFault>
+// Tests the length and the parameters of a query body.
+fn test_head(params: &Params, body: &[u8]) -> Result<(), CodecFault>
     requires { ArePassed (parameters_of params.now) }
-    ensures { result ≡ query_fault (parameters_of params.now) body.now }
+    ensures size { OnOk result (length body.now ≡ query_length (parameters_of params.now)) }
+    ensures header { OnOk result (take 8 body.now ≡ parameter_bytes (parameters_of params.now)) }
+    ensures fault { IfErr result (λ fault. query_fault (parameters_of params.now) body.now ≡ Some fault) }
 {
-    let count = ciphertexts(params);
-    let want = HEADER + CIPHERTEXT_BYTES * count;
+    let want = HEADER + CIPHERTEXT_BYTES * ciphertexts(params);
     if body.len() != want {
-        return Some(CodecFault::Length { want: want as u64 });
+        return Err(CodecFault::Length { want: want as u64 });
     }
     if !has_header(params, body) {
-        return Some(CodecFault::WrongParams);
+        return Err(CodecFault::WrongParams);
     }
-    residue_fault(&body[HEADER..], RESIDUES * count)
+    Ok(())
 }
 
 // The ciphertexts of a query.

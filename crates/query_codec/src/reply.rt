@@ -1,14 +1,13 @@
 //! The bodies of replies.
-ghost use Rattle.std.specs.Prelude.{◌≡◌, ◌≤◌, ◌+◌, ◌*◌, ◌++◌, ◌⊎◌, Some, length, map, IfOk, OnOk, IfErr};
+ghost use Rattle.std.specs.Prelude.{◌≡◌, ◌≤◌, ◌+◌, ◌*◌, ◌++◌, ◌⊎◌, Some, length, map, take, IfOk, OnOk, IfErr};
 ghost use Rattle.std.specs.List.{flat_map, range_with_len, sum};
 ghost use Rattle.byteorder.specs.Endian.{big_bytes};
+ghost use Rattle.psi_residue.specs.Parameters.{parameter_bytes};
 ghost use Rattle.noise_ledger.specs.Verdicts.{parameters_of, ArePassed};
 ghost use Rattle.query_codec.specs.declared.fault.CodecFault.TheVariants.{NoMemory};
-ghost use Rattle.query_codec.specs.Replies.{IsReply, planes_of, reply_bytes, reply_ciphertexts, reply_counts, reply_fault, reply_head, row_count};
+ghost use Rattle.query_codec.specs.Replies.{IsReply, planes_of, reply_bytes, reply_ciphertexts, reply_counts, reply_fault, reply_head, reply_length, row_count};
 
-use crate::ciphertexts::{
-    CIPHERTEXT_BYTES, RESIDUES, append_ciphertexts, read_ciphertexts, residue_fault,
-};
+use crate::ciphertexts::{CIPHERTEXT_BYTES, append_ciphertexts, read_ciphertexts};
 use crate::fault::CodecFault;
 use crate::header::{HEADER, has_header};
 use crate::lists::{Ciphertexts, Counts};
@@ -42,9 +41,7 @@ pub fn read_reply(alloc: Global, params: &Params, body: &[u8]) -> Result<ReplyBo
     ensures fault { IfErr result (λ fault. (fault ≡ NoMemory) ⊎ (reply_fault (parameters_of params.now) body.now ≡ Some fault)) }
     ensures refused { IfErr result (λ fault. (fault ≡ NoMemory → ⊥) → IsReply (parameters_of params.now) body.now → ⊥) }
 {
-    if let Some(fault) = reply_fault(params, body) {
-        return Err(fault);
-    }
+    test_head(params, body)?;
     let counts = read_counts(alloc, body, params.rows as usize)?;
     let cts = read_ciphertexts(alloc, &body[head(params)..], planes(params, body))?;
     Ok(ReplyBody {
@@ -76,24 +73,26 @@ pub fn write_reply(
     Ok(body)
 }
 
-// The first fault of a reply body.
-fn reply_fault(params: &Params, body: &[u8]) -> Option<CodecFault>
+// Tests the length and the parameters of a reply body.
+fn test_head(params: &Params, body: &[u8]) -> Result<(), CodecFault>
     requires { ArePassed (parameters_of params.now) }
-    ensures { result ≡ reply_fault (parameters_of params.now) body.now }
+    ensures head { OnOk result (reply_head (parameters_of params.now) ≤ length body.now) }
+    ensures header { OnOk result (take 8 body.now ≡ parameter_bytes (parameters_of params.now)) }
+    ensures size { OnOk result (length body.now ≡ reply_length (parameters_of params.now) (reply_counts (parameters_of params.now) body.now)) }
+    ensures fault { IfErr result (λ fault. reply_fault (parameters_of params.now) body.now ≡ Some fault) }
 {
     let head = head(params);
     if body.len() < head {
-        return Some(CodecFault::Length { want: head as u64 });
+        return Err(CodecFault::Length { want: head as u64 });
     }
     if !has_header(params, body) {
-        return Some(CodecFault::WrongParams);
+        return Err(CodecFault::WrongParams);
     }
-    let count = planes(params, body);
-    let want = head + CIPHERTEXT_BYTES * count;
+    let want = head + CIPHERTEXT_BYTES * planes(params, body);
     if body.len() != want {
-        return Some(CodecFault::Length { want: want as u64 });
+        return Err(CodecFault::Length { want: want as u64 });
     }
-    residue_fault(&body[head..], RESIDUES * count)
+    Ok(())
 }
 
 // The bytes before the ciphertexts.

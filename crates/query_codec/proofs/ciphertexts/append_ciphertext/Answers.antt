@@ -1,8 +1,7 @@
 use Rattle.std.proofs.Common.{List, ℕ, ◌++◌, ap, ◌∙◌, arith}
 use Rattle.std.specs.List.{flat_map}
 use Rattle.std.proofs.lemmas.List.{take_all}
-use Rattle.psi_bundle.specs.Bodies.{residue_bytes}
-use Rattle.query_codec.specs.Ciphertexts.{ciphertext_bytes}
+use Rattle.query_codec.specs.Ciphertexts.{residue_bytes, ciphertext_bytes}
 use Rattle.query_codec.proofs.ciphertexts.append_ciphertext.Goals as goal
 
 pub returns-clause-appended : goal.returns-clause-appended

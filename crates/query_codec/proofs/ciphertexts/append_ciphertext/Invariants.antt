@@ -1,7 +1,7 @@
 use Rattle.std.proofs.Common.{◌≡◌, ◌++◌, ◌<◌, take}
 use Rattle.std.specs.List.{flat_map}
-use Rattle.psi_bundle.specs.Bodies.{residue_bytes}
-use Rattle.bfv_core.specs.Encryptions.{IsCiphertext}
+use Rattle.psi_residue.specs.Ciphertexts.{IsCiphertext}
+use Rattle.query_codec.specs.Ciphertexts.{residue_bytes}
 use Rattle.query_codec.proofs.ciphertexts.append_ciphertext.Given as goal
 
 abbrev pub invariant-loop-list : goal.invariant-loop-list

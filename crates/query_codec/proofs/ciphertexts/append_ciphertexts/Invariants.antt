@@ -1,6 +1,6 @@
 use Rattle.std.proofs.Common.{◌≡◌, ◌++◌, take}
 use Rattle.std.specs.List.{All}
-use Rattle.bfv_core.specs.Encryptions.{IsCiphertext}
+use Rattle.psi_residue.specs.Ciphertexts.{IsCiphertext}
 use Rattle.query_codec.specs.Ciphertexts.{ciphertexts_bytes}
 use Rattle.query_codec.proofs.ciphertexts.append_ciphertexts.Given as goal
 

@@ -1,5 +1,5 @@
 use Rattle.std.proofs.Common.{◌≡◌, ◌++◌, take}
-use Rattle.psi_bundle.specs.Bodies.{residue_bytes}
+use Rattle.query_codec.specs.Ciphertexts.{residue_bytes}
 use Rattle.query_codec.proofs.ciphertexts.append_residues.Given as goal
 
 abbrev pub invariant-loop-residue : goal.invariant-loop-residue

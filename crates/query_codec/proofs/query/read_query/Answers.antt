@@ -1,35 +1,37 @@
-use Rattle.std.proofs.Common.{ℕ, ◌*◌, ◌-◌, sym, subst, ◌∙◌, drop, length, take, List}
+use Rattle.std.proofs.Common.{refl, ◌∙◌}
+use Rattle.std.proofs.lemmas.Result.{err_from_is_err_and, IfOk-weaker, IfErr-weaker}
 use Rattle.noise_ledger.specs.Verdicts.{parameters_of}
-use Rattle.query_codec.specs.Ciphertexts.{AreCiphertexts, ciphertexts_in}
-use Rattle.query_codec.proofs.QueryBodies.{IsQuery-no_fault, no_fault-IsQuery, AreCiphertexts-query, all_behind, query_ciphertexts-is, spelled_query}
+use Rattle.query_codec.specs.Queries.{powers_of}
+use Rattle.query_codec.proofs.QueryBodies.{AreCiphertexts-behind, IfOk-both, no_fault-IsQuery, no_wrong-behind, query_ciphertexts-is, spelled_query}
 use Rattle.query_codec.proofs.query.read_query.Goals as goal
 
-pub returns-in-Some-clause-refused : goal.returns-in-Some-clause-refused
-returns-in-Some-clause-refused c = λ other q.
+pub returns-in_err-test_head-clause-refused : goal.returns-in_err-test_head-clause-refused
+returns-in_err-test_head-clause-refused c =
+    let p = err_from_is_err_and c.from_residual.result c.from_residual.ensures.1 in
+    rw (p.1, p.2)
+    (λ other q.
     let none = no_fault-IsQuery (parameters_of c.args.params.now) c.args.body.now q in
-    let some = c.in-Some.ensures in
-    absurd cc
-
-pub read_ciphertexts-requires : goal.read_ciphertexts-requires
-read_ciphertexts-requires c =
-    let p = parameters_of c.args.params.now in
-    let body = c.args.body.now in
-    let are = AreCiphertexts-query p body (IsQuery-no_fault p body (sym c.in_default.ensures)) in
-    subst (λ (n : ℕ). AreCiphertexts (take (length body - 8) (drop 8 body)) n) (sym c.ciphertexts.ensures.number)
-    (subst (λ (xs : List ℕ). AreCiphertexts xs (p.rows * p.capacity)) (sym (all_behind 8 body)) are)
-
-pub returns-clause-query : goal.returns-clause-query
-returns-clause-query c = IsQuery-no_fault (parameters_of c.args.params.now) c.args.body.now (sym c.in_default.ensures)
+    let some = c.in_err-test_head.ensures.fault in
+    absurd cc)
 
 pub returns-clause-read : goal.returns-clause-read
 returns-clause-read c =
-    let p = parameters_of c.args.params.now in
-    let body = c.args.body.now in
-    c.in_ok-read_ciphertexts.ensures ∙ (λ i. ciphertexts_in (all_behind 8 body i) (c.ciphertexts.ensures.number i)) ∙ sym (query_ciphertexts-is p body)
+    IfOk-weaker c.read_ciphertexts.result _ _
+    (λ cts e. e ∙ query_ciphertexts-is (parameters_of c.args.params.now) c.args.body.now c.ciphertexts.result c.ciphertexts.ensures.number) c.read_ciphertexts.ensures.read
 
 pub returns-clause-spelled : goal.returns-clause-spelled
 returns-clause-spelled c =
     let p = parameters_of c.args.params.now in
     let body = c.args.body.now in
-    spelled_query p body c.in_ok-read_ciphertexts.field-0.items (IsQuery-no_fault p body (sym c.in_default.ensures)) (λ i. (c.type_inv.body i).fits)
-    (c.in_ok-read_ciphertexts.ensures ∙ (λ i. ciphertexts_in (all_behind 8 body i) (c.ciphertexts.ensures.number i)) ∙ sym (query_ciphertexts-is p body))
+    let count = c.ciphertexts.result in
+    let number = c.ciphertexts.ensures.number in
+    IfOk-both c.read_ciphertexts.result _ _ _
+    (λ cts e are.
+    spelled_query p body cts.items c.in_ok-test_head.ensures.header (AreCiphertexts-behind body 8 8 count (powers_of p) refl number are) (λ i. (c.type_inv.body i).fits) (e ∙ query_ciphertexts-is p body count number))
+    c.read_ciphertexts.ensures.read c.read_ciphertexts.ensures.whole
+
+pub returns-clause-refused : goal.returns-clause-refused
+returns-clause-refused c =
+    IfErr-weaker c.read_ciphertexts.result _ _
+    (λ fault h other q. no_wrong-behind c.args.body.now 8 8 c.ciphertexts.result (powers_of (parameters_of c.args.params.now)) refl c.ciphertexts.ensures.number q.fit fault h other)
+    c.read_ciphertexts.ensures.fault
