@@ -1,6 +1,6 @@
 -- The exchanges of the one-thread sender, and that they serve their rounds.
-use Rattle.std.specs.Prelude.{◌≡◌, ℕ, zero, suc, ◌+◌, ◌-◌, ◌<◌, ◌≤◌, min, Bool, true, false, nat_eq, nat_lt, is_none, List, [], ◌∷◌, ◌++◌, length, map, take, Option, Some, None, IsSome, slice_get, if◌then◌else◌, ⊤}
-use Rattle.std.specs.List.{All, AllPairs, AllByRecursion, count_by, enumerate_from, flat_map, filter_map, range_with_len, zip}
+use Rattle.std.specs.Prelude.{◌≡◌, ℕ, zero, suc, ◌+◌, ◌-◌, ◌<◌, ◌≤◌, min, Bool, true, false, nat_eq, nat_lt, is_none, List, [], ◌∷◌, ◌++◌, length, map, filter, take, Option, Some, None, IsSome, slice_get, if◌then◌else◌, ⊤}
+use Rattle.std.specs.List.{All, AllPairs, AllByRecursion, enumerate_from, flat_map, filter_map, range_with_len, zip}
 use Rattle.std.proofs.Common.{refl, sym, ap, ◌∙◌, subst, arith, inl, inr, append_assoc, length-append}
 use Rattle.std.proofs.lemmas.Bool.{lt-ltb, eq-eqb}
 use Rattle.std.proofs.lemmas.List.{map-append, append-nil}
@@ -82,14 +82,33 @@ places-others p v (n ∷ ns) keep h = let other = h.0 in rw other (places-others
 
 -- requests without a code
 abbrev pub uncoded : List Request → ℕ
-uncoded rs = count_by (λ r. is_none (code_of r)) rs
+uncoded rs = length (filter (λ r. is_none (code_of r)) rs)
 
 -- there are as many entries as requests without a code, or as the journal has room for
 length-history_by : (v : Version) (r : Request) (rs : List Request) → Turned v r
     → length (lane_history (lane_next v r) rs) ≡ min (uncoded rs) (journal_limit - (lane_next v r).count)
     → length (entries_by v (call_on v r) ++ lane_history (lane_next v r) rs) ≡ min (uncoded (r ∷ rs)) (journal_limit - v.count)
-length-history_by v r rs (Turned.Coded code coded none) rest = rw coded (by_none none rest) where
-  by_none : {X : ℕ} → call_on v r ≡ None → length (lane_history (version_by v (call_on v r)) rs) ≡ X → length (entries_by v (call_on v r) ++ lane_history (version_by v (call_on v r)) rs) ≡ X
-  by_none none e = cc
-length-history_by v r rs (Turned.Full open full none) rest = ?
-length-history_by v r rs (Turned.Makes c open room calls some) rest = ?
+length-history_by v r rs (Turned.Coded code coded none) = rw (none, coded) (λ rest. rest)
+length-history_by v r rs (Turned.Full uncoded_here full none) = rw (none, uncoded_here) (λ rest. omega (arith, rest, full))
+length-history_by v r rs (Turned.Makes c uncoded_here room calls some) = rw (some, uncoded_here) (λ rest. let more = count-step v c in omega (arith, rest, room, more))
+
+pub length-history : (v : Version) (rs : List Request) → length (lane_history v rs) ≡ min (uncoded rs) (journal_limit - v.count)
+unfolding lane_history
+length-history v [] = omega arith
+length-history v (r ∷ rs) = length-history_by v r rs (turned v r) (length-history (lane_next v r) rs)
+
+-- requests without a code, in rounds that are this one, or others
+uncoded-one : (k : ℕ) (e : Exchange) (rs : List Request) (es : List Exchange) (b : Bool) → is_none (code_of e.request) ≡ b → nat_eq k e.round ≡ true
+    → uncoded_of_round k es ≡ uncoded rs → uncoded_of_round k (e ∷ es) ≡ uncoded (e.request ∷ rs)
+uncoded-one k e rs es true code here rest = rw (here, code) (ap suc rest)
+uncoded-one k e rs es false code here rest = rw (here, code) rest
+
+pub uncoded-kept : (p : Parameters) (v : Version) (ns : List (ℕ × Request)) (k : ℕ) → AllByRecursion (λ n. nat_eq k n.0 ≡ true) ns → uncoded_of_round k (lane p v ns) ≡ uncoded (seconds ns)
+uncoded-kept p v [] k h = refl
+uncoded-kept p v (n ∷ ns) k h =
+    uncoded-one k (record { round = n.0; request = n.1; reply = lane_reply p v n.1 }) (seconds ns) (lane p (lane_next v n.1) ns) (is_none (code_of n.1)) refl h.0
+    (uncoded-kept p (lane_next v n.1) ns k h.1)
+
+pub uncoded-others : (p : Parameters) (v : Version) (ns : List (ℕ × Request)) (k : ℕ) → AllByRecursion (λ n. nat_eq k n.0 ≡ false) ns → uncoded_of_round k (lane p v ns) ≡ 0
+uncoded-others p v [] k h = refl
+uncoded-others p v (n ∷ ns) k h = let other = h.0 in rw other (uncoded-others p (lane_next v n.1) ns k h.1)

@@ -1,3 +1,13 @@
+pub mod FrameLaws
 pub mod WholeFrames
 pub mod RoundLaws
 pub mod Spelled
+pub mod Turns
+pub mod Each
+pub mod Lanes
+pub mod Following
+pub mod LaneServes
+pub mod Ranges
+pub mod OneText
+pub mod OnlyText
+pub mod Apart

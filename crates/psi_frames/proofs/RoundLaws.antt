@@ -10,19 +10,19 @@ use Rattle.std.proofs.lemmas.List.Concat.{flat_map-append}
 use Rattle.std.specs.List.{All, list_any}
 use Rattle.psi_residue.specs.Parameters.{Parameters}
 use Rattle.psi_frames.specs.declared.frame.Frame.{Frame}
-use Rattle.psi_frames.specs.Frames.{IsSpellable, frame_bytes, frames_bytes, ask_kind}
-use Rattle.psi_frames.specs.FrameLaws.{length-frame_append}
-use Rattle.psi_frames.specs.Inputs.{IsPlainFrame, IsOneRoundAtMost}
-use Rattle.psi_frames.specs.Requests.{code_of}
-use Rattle.psi_frames.specs.Rounds.{is_go, is_full, IsRound, requests_from}
+use Rattle.psi_frames.specs.Frames.{IsSpellable, frame_bytes, frames_bytes}
+use Rattle.psi_frames.proofs.FrameLaws.{length-frame_append}
+use Rattle.psi_frames.specs.Inputs.{IsPutDropAskFrame, IsOneRoundAtMost}
+use Rattle.psi_frames.specs.Requests.{asks_behind, counted, request_of, requests_from}
+use Rattle.psi_frames.specs.Rounds.{is_go, is_full, IsRound}
 
 -- a Put, a Drop or an Ask is no Go
-plain_no_go : (f : Frame) → IsPlainFrame f → is_go f ≡ false
+plain_no_go : (f : Frame) → IsPutDropAskFrame f → is_go f ≡ false
 plain_no_go f plain = elim plain.kind [ inl e ↦ rw e refl | inr other ↦ elim other [ inl e ↦ rw e refl | inr e ↦ rw e refl ] ]
 
-no_go_among : (fs : List Frame) → All IsPlainFrame fs → list_any is_go fs ≡ false
+no_go_among : (fs : List Frame) → All IsPutDropAskFrame fs → list_any is_go fs ≡ false
 no_go_among [] each = refl
-no_go_among (f ∷ fs) each = let e = plain_no_go f (All-head IsPlainFrame f fs each) in rw e (no_go_among fs (All-tail IsPlainFrame f fs each))
+no_go_among (f ∷ fs) each = let e = plain_no_go f (All-head IsPutDropAskFrame f fs each) in rw e (no_go_among fs (All-tail IsPutDropAskFrame f fs each))
 
 -- the three tests of a full round
 none_full : (a b c : Bool) → a ≡ false → b ≡ false → c ≡ false → a || (b || c) ≡ false
@@ -43,7 +43,7 @@ not_full-tells fs short =
     (grind (arith, nat_tests, few), grind (arith, nat_tests, small))
 
 -- few frames of few bytes are not full
-few_not_full : (fs : List Frame) → All IsPlainFrame fs → length fs < 4096 → length (frames_bytes fs) < 2 ^ 28 → is_full fs ≡ false
+few_not_full : (fs : List Frame) → All IsPutDropAskFrame fs → length fs < 4096 → length (frames_bytes fs) < 2 ^ 28 → is_full fs ≡ false
 unfolding is_full
 few_not_full fs each few small =
     none_full _ _ _ (no_go_among fs each) (lt-leb 4096 (length fs) few) (lt-leb (2 ^ 28) (length (frames_bytes fs)) small)
@@ -59,13 +59,13 @@ length-take_front : (fs : List Frame) (k : ℕ) → k ≤ length fs → length (
 length-take_front fs k le = omega (arith, length-take-le k fs le)
 
 -- frames behind a front that is not full are a round
-pub round-by_front : (front : List Frame) (last : Frame) → All IsPlainFrame front → length front < 4096 → length (frames_bytes front) < 2 ^ 28 → IsRound (front ++ last ∷ [])
+pub round-by_front : (front : List Frame) (last : Frame) → All IsPutDropAskFrame front → length front < 4096 → length (frames_bytes front) < 2 ^ 28 → IsRound (front ++ last ∷ [])
 round-by_front front last each few small = record {
   some = omega (arith, length-append front (last ∷ []));
   first_full = λ k lt.
       let le : k ≤ length front = omega (arith, length-append front (last ∷ [])) in
       ap is_full (take-append-le k front (last ∷ []) le)
-      ∙ few_not_full (take k front) (All-take IsPlainFrame k front each) (omega (arith, length-take_front front k le)) (omega (arith, length-front front k last));
+      ∙ few_not_full (take k front) (All-take IsPutDropAskFrame k front each) (omega (arith, length-take_front front k le)) (omega (arith, length-front front k last));
 }
 
 -- and the other way round
@@ -84,12 +84,12 @@ ends_with : (f : Frame) (fs : List Frame) → EndsWith (f ∷ fs)
 ends_with f [] = record { front = []; last = f; whole = refl }
 ends_with f (g ∷ gs) = let e = ends_with g gs in record { front = f ∷ e.front; last = e.last; whole = ap (λ (t : List Frame). f ∷ t) e.whole }
 
-last-plain : (front : List Frame) (last : Frame) → All IsPlainFrame (front ++ last ∷ []) → IsPlainFrame last
-last-plain [] last each = All-head IsPlainFrame last [] each
-last-plain (f ∷ fs) last each = last-plain fs last (All-tail IsPlainFrame f (fs ++ last ∷ []) each)
+last-plain : (front : List Frame) (last : Frame) → All IsPutDropAskFrame (front ++ last ∷ []) → IsPutDropAskFrame last
+last-plain [] last each = All-head IsPutDropAskFrame last [] each
+last-plain (f ∷ fs) last each = last-plain fs last (All-tail IsPutDropAskFrame f (fs ++ last ∷ []) each)
 
-front-plain : (front : List Frame) (last : Frame) → All IsPlainFrame (front ++ last ∷ []) → All IsPlainFrame front
-front-plain front last each = All-same IsPlainFrame front (take (length front) (front ++ last ∷ [])) (sym (take-append_seam front (last ∷ []))) (All-take IsPlainFrame (length front) (front ++ last ∷ []) each)
+front-plain : (front : List Frame) (last : Frame) → All IsPutDropAskFrame (front ++ last ∷ []) → All IsPutDropAskFrame front
+front-plain front last each = All-same IsPutDropAskFrame front (take (length front) (front ++ last ∷ [])) (sym (take-append_seam front (last ∷ []))) (All-take IsPutDropAskFrame (length front) (front ++ last ∷ []) each)
 
 -- a round has at most 4096 frames and fewer than 2^29 bytes
 round-bounds : (front : List Frame) (last : Frame) → IsSpellable last → IsRound (front ++ last ∷ []) → (length (front ++ last ∷ []) ≤ 4096) × (length (frames_bytes (front ++ last ∷ [])) < 2 ^ 29)
@@ -102,21 +102,21 @@ round-bounds front last s round =
     let long = s.length in
     (omega (arith, length-append front (last ∷ [])), omega (arith, more, size, long, small))
 
-pub one_round-bounds : (fs : List Frame) → All IsPlainFrame fs → IsOneRoundAtMost fs → (length fs ≤ 4096) × (length (frames_bytes fs) < 2 ^ 29)
+pub one_round-bounds : (fs : List Frame) → All IsPutDropAskFrame fs → IsOneRoundAtMost fs → (length fs ≤ 4096) × (length (frames_bytes fs) < 2 ^ 29)
 one_round-bounds [] each round = (omega arith, omega arith)
 one_round-bounds (f ∷ fs) each (inl none) = absurd (cc)
 one_round-bounds (f ∷ fs) each (inr round) =
     let e = ends_with f fs in
-    let all = All-same IsPlainFrame (e.front ++ e.last ∷ []) (f ∷ fs) (sym e.whole) each in
+    let all = All-same IsPutDropAskFrame (e.front ++ e.last ∷ []) (f ∷ fs) (sym e.whole) each in
     let spellable = (last-plain e.front e.last all).frame.spellable in
     let bounds = round-bounds e.front e.last spellable (subst IsRound e.whole round) in
     subst (λ (gs : List Frame). (length gs ≤ 4096) × (length (frames_bytes gs) < 2 ^ 29)) (sym e.whole) bounds
 
 -- the request of a frame that puts, drops or asks, and those behind it
-pub requests_from-cons : (p : Parameters) (round asks : ℕ) (f : Frame) (fs : List Frame) → IsPlainFrame f
-    → requests_from p round asks (f ∷ fs) ≡ record { round = round; frame = f; code = code_of p asks f } ∷ requests_from p round (if nat_eq f.kind ask_kind then asks + 1 else asks) fs
+pub requests_from-cons : (p : Parameters) (asks : ℕ) (f : Frame) (fs : List Frame) → IsPutDropAskFrame f
+    → requests_from p asks (f ∷ fs) ≡ counted asks (request_of p f) ∷ requests_from p (asks_behind asks f) fs
 unfolding requests_from
-requests_from-cons p round asks f fs plain = let other = plain_no_go f plain in rw other refl
+requests_from-cons p asks f fs plain = let other = plain_no_go f plain in rw other refl
 
 -- the bytes of one frame more
 length-next : (fs : List Frame) (i : ℕ) (d : Frame) → i < length fs → length (frames_bytes (take (suc i) fs)) ≡ length (frames_bytes (take i fs)) + (11 + length (slice_index_or fs i d).body)
@@ -130,15 +130,15 @@ pub length-one_more : (fs : List Frame) (i : ℕ) (d : Frame) → i < length fs 
 length-one_more fs i d lt = let one : i + 1 ≡ suc i = omega arith in ap (λ (n : ℕ). length (frames_bytes (take n fs))) one ∙ length-next fs i d lt
 
 -- the frame at a place is one of them
-pub plain-at : (fs : List Frame) (i : ℕ) (f : Frame) → i < length fs → f ≡ slice_index_or fs i f → All IsPlainFrame fs → IsPlainFrame f
-plain-at fs i f lt here each = subst IsPlainFrame (sym here) (each i f lt)
+pub plain-at : (fs : List Frame) (i : ℕ) (f : Frame) → i < length fs → f ≡ slice_index_or fs i f → All IsPutDropAskFrame fs → IsPutDropAskFrame f
+plain-at fs i f lt here each = subst IsPutDropAskFrame (sym here) (each i f lt)
 
 -- the tests of the frames before the last tell whether all are one round at most
-pub round-tells : (fs front : List Frame) (last : Frame) → fs ≡ front ++ last ∷ [] → All IsPlainFrame fs → IsOneRoundAtMost fs → (length front < 4096) × (length (frames_bytes front) < 2 ^ 28)
+pub round-tells : (fs front : List Frame) (last : Frame) → fs ≡ front ++ last ∷ [] → All IsPutDropAskFrame fs → IsOneRoundAtMost fs → (length front < 4096) × (length (frames_bytes front) < 2 ^ 28)
 round-tells fs front last e each (inl none) = absurd (omega (arith, ap length (sym e ∙ none), length-append front (last ∷ [])))
 round-tells fs front last e each (inr round) = front-of_round front last (subst IsRound e round)
 
-pub round-told : (fs front : List Frame) (last : Frame) → fs ≡ front ++ last ∷ [] → All IsPlainFrame fs → length front < 4096 → length (frames_bytes front) < 2 ^ 28 → IsOneRoundAtMost fs
+pub round-told : (fs front : List Frame) (last : Frame) → fs ≡ front ++ last ∷ [] → All IsPutDropAskFrame fs → length front < 4096 → length (frames_bytes front) < 2 ^ 28 → IsOneRoundAtMost fs
 round-told fs front last e each few small =
-    let all = All-same IsPlainFrame (front ++ last ∷ []) fs (sym e) each in
+    let all = All-same IsPutDropAskFrame (front ++ last ∷ []) fs (sym e) each in
     inr (subst IsRound (sym e) (round-by_front front last (front-plain front last all) few small))

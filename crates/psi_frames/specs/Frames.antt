@@ -111,14 +111,40 @@ pub record AreWholeFrames (table : Table) (bytes : List ℕ) (frames : List Fram
   pub first : front_fault table rest ≡ fault
   pub ended : fault ≡ None → rest ≡ []
 
+-- the kind of a reply
+abbrev pub reply_kind : Reply → ℕ
+reply_kind (reply.Added place) = 129
+reply_kind (reply.Replaced place) = 130
+reply_kind (reply.Removed place) = 131
+reply_kind (reply.Absent place) = 132
+reply_kind (reply.Full place planes cells) = 133
+reply_kind (reply.Answer place body) = 134
+reply_kind (reply.Repacked place from before after) = 135
+reply_kind (reply.Moved place from stamp) = 136
+reply_kind (reply.Refused code) = 137
+
+-- the body of its frame
+abbrev pub reply_content : Reply → List ℕ
+reply_content (reply.Added place) = big_bytes 8 place
+reply_content (reply.Replaced place) = big_bytes 8 place
+reply_content (reply.Removed place) = big_bytes 8 place
+reply_content (reply.Absent place) = big_bytes 8 place
+reply_content (reply.Full place planes cells) = big_bytes 8 place ++ big_bytes 4 planes ++ big_bytes 4 cells
+reply_content (reply.Answer place body) = big_bytes 8 place ++ body
+reply_content (reply.Repacked place from before after) = big_bytes 8 place ++ big_bytes 8 from ++ big_bytes 2 before ++ big_bytes 2 after
+reply_content (reply.Moved place from stamp) = big_bytes 8 place ++ big_bytes 8 from ++ big_bytes 8 stamp
+reply_content (reply.Refused code) = big_bytes 1 code
+
 -- a reply frame as bytes
 abbrev pub reply_bytes : (session number : ℕ) → Reply → List ℕ
-reply_bytes session number (reply.Added place) = spelled 129 session number (big_bytes 8 place)
-reply_bytes session number (reply.Replaced place) = spelled 130 session number (big_bytes 8 place)
-reply_bytes session number (reply.Removed place) = spelled 131 session number (big_bytes 8 place)
-reply_bytes session number (reply.Absent place) = spelled 132 session number (big_bytes 8 place)
-reply_bytes session number (reply.Full place planes cells) = spelled 133 session number (big_bytes 8 place ++ big_bytes 4 planes ++ big_bytes 4 cells)
-reply_bytes session number (reply.Answer place body) = spelled 134 session number (big_bytes 8 place ++ body)
-reply_bytes session number (reply.Repacked place from before after) = spelled 135 session number (big_bytes 8 place ++ big_bytes 8 from ++ big_bytes 2 before ++ big_bytes 2 after)
-reply_bytes session number (reply.Moved place from stamp) = spelled 136 session number (big_bytes 8 place ++ big_bytes 8 from ++ big_bytes 8 stamp)
-reply_bytes session number (reply.Refused code) = spelled 137 session number (big_bytes 1 code)
+reply_bytes session number r = spelled (reply_kind r) session number (reply_content r)
+
+-- The reply's frame has a length that a frame may have. The body of an answer alone could be too long.
+abbrev pub answer_fits : Reply → Type 0
+answer_fits r = head_bytes + length (reply_content r) ≤ greatest_length
+
+-- No reply frame begins another one.
+abbrev pub NoReplyBeginsAnother : Type 0
+NoReplyBeginsAnother =
+    (session number other_session other_number : ℕ) (a b : Reply) (rest : List ℕ) → answer_fits a → answer_fits b
+    → reply_bytes session number a ++ rest ≡ reply_bytes other_session other_number b → rest ≡ []

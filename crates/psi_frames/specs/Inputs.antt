@@ -1,12 +1,10 @@
 -- The input of one round: whole frames that put items, drop them, or ask, and no request has a code.
-use Rattle.std.specs.Prelude.{◌≡◌, ◌⊎◌, ℕ, ◌+◌, ◌≤◌, Bool, ◌&&◌, ◌||◌, nat_eq, nat_le, List, [], None, ⊤, length, slice_index}
+use Rattle.std.specs.Prelude.{◌≡◌, ◌⊎◌, ℕ, ◌+◌, ◌≤◌, Bool, ◌&&◌, ◌||◌, nat_eq, nat_le, List, [], None, length, slice_index}
 use Rattle.std.specs.List.{All}
 use Rattle.byteorder.specs.Endian.{big_number}
 use Rattle.psi_frames.specs.declared.frame.Frame.{Frame}
-use Rattle.psi_frames.specs.declared.reply.Reply.{Reply}
-use Rattle.psi_frames.specs.declared.reply.Reply.TheVariants as reply
 use Rattle.psi_residue.specs.Parameters.{Parameters}
-use Rattle.psi_frames.specs.Frames.{AreWholeFrames, request_table, is_frame_length, most_bytes, put_kind, drop_kind, ask_kind, head_bytes, greatest_length}
+use Rattle.psi_frames.specs.Frames.{AreWholeFrames, IsFrame, request_table, is_frame_length, most_bytes, put_kind, drop_kind, ask_kind}
 use Rattle.psi_frames.specs.Requests.{code_of, requests_from}
 use Rattle.psi_frames.specs.Rounds.{IsRound}
 
@@ -17,6 +15,11 @@ IsPutDropAsk kind = (kind ≡ put_kind) ⊎ ((kind ≡ drop_kind) ⊎ (kind ≡ 
 -- the test of it
 abbrev pub is_put_drop_ask : ℕ → Bool
 is_put_drop_ask kind = nat_eq kind put_kind || (nat_eq kind drop_kind || nat_eq kind ask_kind)
+
+-- a frame of the table of requests that puts, drops or asks
+pub record IsPutDropAskFrame (f : Frame) : Type 0 where
+  pub frame : IsFrame request_table f
+  pub kind : IsPutDropAsk f.kind
 
 -- the bytes are these frames, one after another, and nothing else; they put, drop or ask
 pub record AreFrames (bytes : List ℕ) (frames : List Frame) : Type 0 where
@@ -39,8 +42,3 @@ abbrev pub begins_frame : List ℕ → Bool
 begins_frame bytes =
     nat_le 11 (length bytes)
     && (is_frame_length request_table (big_number 4 bytes) && (nat_le (4 + big_number 4 bytes) (length bytes) && is_put_drop_ask (slice_index bytes 4)))
-
--- The reply's frame has a length that a frame may have. The body of an answer alone could be too long.
-abbrev pub answer_fits : Reply → Type 0
-answer_fits (reply.Answer place body) = head_bytes + (8 + length body) ≤ greatest_length
-answer_fits _ = ⊤

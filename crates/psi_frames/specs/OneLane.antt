@@ -77,9 +77,9 @@ lane_history v (r ∷ rs) = entries_by v (call_on v r) ++ lane_history (lane_nex
 abbrev pub HasByteCode : Request → Type 0
 HasByteCode r = (code : ℕ) → code_of r ≡ Some code → code < journal_full
 
--- From each start without entries, behind each legal history that a journal has room for, exactly one text is that of one lane.
+-- From each start without entries, behind each legal history, exactly one text is that of one lane.
 abbrev pub OneTextIsOfOneLane : Type 0
 OneTextIsOfOneLane =
     (p : Parameters) (start : Version) (given : List Entry) (rounds : List (List Request))
-    → start.count ≡ 0 → IsLegal start given → length given ≤ journal_limit → All HasByteCode (requests_of rounds)
+    → start.count ≡ 0 → IsLegal start given → All HasByteCode (requests_of rounds)
     → (text : List ℕ) × IsOneLaneText p start given rounds text × ((other : List ℕ) → IsOneLaneText p start given rounds other → other ≡ text)

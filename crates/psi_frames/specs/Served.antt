@@ -1,7 +1,7 @@
 -- What replies serve what rounds of requests: a history is read off the requests and the replies. A place is the number of a request's
 -- entry in the history, from 0.
-use Rattle.std.specs.Prelude.{◌≡◌, ◌⊎◌, ℕ, ◌+◌, ◌-◌, ◌^◌, ◌<◌, ◌≤◌, min, Bool, true, false, nat_eq, nat_lt, is_none, List, [], length, map, take, Option, Some, None, IsSome, slice_get, if◌then◌else◌}
-use Rattle.std.specs.List.{All, AllPairs, count_by, enumerate_from, flat_map, filter_map, range_with_len, zip}
+use Rattle.std.specs.Prelude.{◌≡◌, ◌⊎◌, ℕ, ◌+◌, ◌-◌, ◌^◌, ◌<◌, ◌≤◌, min, Bool, true, false, nat_eq, nat_lt, is_none, List, [], length, map, filter, take, Option, Some, None, IsSome, slice_get, if◌then◌else◌}
+use Rattle.std.specs.List.{All, AllPairs, enumerate_from, flat_map, filter_map, range_with_len, zip}
 use Rattle.std.specs.List.Sorted.{IsPermutation}
 use Rattle.std.specs.Option.{option_map}
 use Rattle.psi_residue.specs.Parameters.{Parameters}
@@ -132,7 +132,7 @@ is_uncoded_in k e = if nat_eq k e.round then is_none (code_of e.request) else fa
 
 -- how many there are
 abbrev pub uncoded_of_round : ℕ → List Exchange → ℕ
-uncoded_of_round k es = count_by (is_uncoded_in k) es
+uncoded_of_round k es = length (filter (is_uncoded_in k) es)
 
 -- the entries that a journal may have
 abbrev pub journal_limit : ℕ

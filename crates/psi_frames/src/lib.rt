@@ -6,6 +6,7 @@
 
 mod body;
 mod frame;
+mod laws;
 mod number;
 mod reading;
 mod reply;
@@ -14,9 +15,10 @@ mod rounds;
 mod writing;
 
 pub use crate::body::Body;
+pub use crate::laws::{no_reply_begins_another, one_text_is_of_one_lane};
 pub use crate::frame::{ASK, DROP, Frame, PUT};
 pub use crate::reading::{FramesFault, whole_frames};
 pub use crate::reply::Reply;
 pub use crate::request::{Request, read_request};
 pub use crate::rounds::is_one_round;
-pub use crate::writing::{append_answer, write_answer};
+pub use crate::writing::write_answer;

@@ -3,19 +3,22 @@ ghost use Rattle.std.specs.Prelude.{◌≡◌, ◌++◌, List, [], ◌∷◌, �
 ghost use Rattle.psi_frames.specs.declared.frame.Frame.{Frame};
 ghost use Rattle.psi_frames.specs.declared.reading.FramesFault.TheVariants.{Bad, NoMemory};
 ghost use Rattle.psi_frames.specs.Frames.{frame_bytes};
-ghost use Rattle.psi_frames.specs.Inputs.{IsPlainFrame, AreFrames, begins_frame};
-ghost use Rattle.psi_frames.specs.FrameLaws.{front_frame, behind_front};
+ghost use Rattle.psi_frames.specs.Inputs.{IsPutDropAskFrame, AreFrames, begins_frame};
+ghost use Rattle.psi_frames.specs.FrontFrames.{front_frame, behind_front};
 
 use crate::body::Body;
 use crate::frame::{ASK, DROP, Frame, GREATEST_LENGTH, HEAD_BYTES, PUT};
 use byteorder::{BigEndian, ByteOrder};
 use std::alloc::{AllocError, Global};
 
+/// The most bytes of an input.
+const MOST_BYTES: usize = 1 << 40;
+
 /// The bytes of a frame before its body: the length word and the head.
 const BEFORE_BODY: usize = 4 + HEAD_BYTES;
 
 /// Why an input was not read.
-#[derive(Clone, Copy, PartialEq, Eq, Debug)]
+#[derive(Clone, Copy)]
 pub enum FramesFault {
     /// The bytes are no list of whole frames that put, drop or ask.
     Bad,
@@ -32,12 +35,16 @@ impl From<AllocError> for FramesFault {
 }
 
 /// The frames of an input: whole frames that put an item (kind 1), drop one (kind 2) or ask (kind 3), one after
-/// another. A frame's length word is from 7 to 196608015. `Bad` comes exactly where the bytes are no such list.
+/// another. A frame's length word is from 7 to 196608015, and an input has 2^40 bytes at most. `Bad` comes exactly where
+/// the bytes are no such list.
 pub fn whole_frames(alloc: Global, bytes: &[u8]) -> Result<Vec<Frame>, FramesFault>
     ensures found { IfOk result (λ v. AreFrames bytes.now v.items) }
     ensures only { IfOk result (λ v. (fs : List Frame) → AreFrames bytes.now fs → fs ≡ v.items) }
     ensures bad { result ≡ Err Bad → (fs : List Frame) → AreFrames bytes.now fs → ⊥ }
 {
+    if bytes.len() > MOST_BYTES {
+        return Err(FramesFault::Bad);
+    }
     let mut frames = Vec::new(alloc);
     let mut rest = bytes;
     while !rest.is_empty() {
@@ -50,8 +57,8 @@ pub fn whole_frames(alloc: Global, bytes: &[u8]) -> Result<Vec<Frame>, FramesFau
 
 // The frame at the front of the bytes, and what stands behind it.
 fn next_frame<'a>(alloc: Global, bytes: &'a [u8]) -> Result<(Frame, &'a [u8]), FramesFault>
-    ensures found { IfOk result (λ p. IsPlainFrame p.0 × (bytes.now ≡ frame_bytes p.0 ++ p.1.now)) }
-    ensures bad { result ≡ Err Bad → (f : Frame) (x : List ℕ) → IsPlainFrame f → bytes.now ≡ frame_bytes f ++ x → ⊥ }
+    ensures found { IfOk result (λ p. IsPutDropAskFrame p.0 × (bytes.now ≡ frame_bytes p.0 ++ p.1.now)) }
+    ensures bad { result ≡ Err Bad → (f : Frame) (x : List ℕ) → IsPutDropAskFrame f → bytes.now ≡ frame_bytes f ++ x → ⊥ }
 {
     if !begins_frame(bytes) {
         return Err(FramesFault::Bad);
@@ -61,7 +68,7 @@ fn next_frame<'a>(alloc: Global, bytes: &'a [u8]) -> Result<(Frame, &'a [u8]), F
 }
 
 // The frame that the bytes begin with, and what stands behind it.
-#[tactic(auto, unfolding(crate::specs::FrameLaws::front_frame, crate::specs::FrameLaws::behind_front))]
+#[tactic(auto, unfolding(crate::specs::FrontFrames::front_frame, crate::specs::FrontFrames::behind_front))]
 fn split_frame<'a>(alloc: Global, bytes: &'a [u8]) -> Result<(Frame, &'a [u8]), AllocError>
     requires { IsTrue (begins_frame bytes.now) }
     ensures { IfOk result (λ p. (p.0 ≡ front_frame bytes.now) × (p.1.now ≡ behind_front bytes.now)) }

@@ -2,7 +2,7 @@
 ghost use Rattle.std.specs.Prelude.{◌≡◌, ◌<◌, ◌^◌, ◌↔◌, length, IsTrue};
 ghost use Rattle.std.specs.List.{All};
 ghost use Rattle.psi_frames.specs.Frames.{frames_bytes};
-ghost use Rattle.psi_frames.specs.Inputs.{IsPlainFrame, IsOneRoundAtMost};
+ghost use Rattle.psi_frames.specs.Inputs.{IsPutDropAskFrame, IsOneRoundAtMost};
 
 use crate::frame::{Frame, HEAD_BYTES};
 
@@ -15,7 +15,7 @@ const ROUND_BYTES: u64 = 268435456;
 /// Whether frames that put, drop or ask are no more than one round: a round ends after its 4096th frame, and after the
 /// frame that brings its bytes to 2^28.
 pub fn is_one_round(frames: &[Frame]) -> bool
-    requires { All IsPlainFrame frames.now }
+    requires { All IsPutDropAskFrame frames.now }
     ensures { IsTrue result ↔ IsOneRoundAtMost frames.now }
 {
     match frames.split_last() {
@@ -26,7 +26,7 @@ pub fn is_one_round(frames: &[Frame]) -> bool
 
 // Whether a round goes on behind these frames.
 fn is_open(frames: &[Frame]) -> bool
-    requires { All IsPlainFrame frames.now }
+    requires { All IsPutDropAskFrame frames.now }
     ensures { IsTrue result ↔ ((length frames.now < 4096) × (length (frames_bytes frames.now) < 2 ^ 28)) }
 {
     frames.len() < FRAMES && text_length(frames) < ROUND_BYTES
@@ -35,7 +35,7 @@ fn is_open(frames: &[Frame]) -> bool
 // The bytes of some frames.
 fn text_length(frames: &[Frame]) -> u64
     requires few { length frames.now < 4096 }
-    requires plain { All IsPlainFrame frames.now }
+    requires plain { All IsPutDropAskFrame frames.now }
     ensures { result ≡ length (frames_bytes frames.now) }
 {
     let mut length = 0;

@@ -1,8 +1,7 @@
 //! Replies as bytes.
 ghost use Rattle.std.specs.Prelude.{◌≡◌, ◌≤◌, ◌+◌, ◌++◌, length, OnOk, IfOk};
 ghost use Rattle.byteorder.specs.Endian.{big_bytes};
-ghost use Rattle.psi_frames.specs.Frames.{reply_bytes, head_bytes, greatest_length};
-ghost use Rattle.psi_frames.specs.Inputs.{answer_fits};
+ghost use Rattle.psi_frames.specs.Frames.{answer_fits, greatest_length, head_bytes, reply_bytes};
 
 use crate::frame::HEAD_BYTES;
 use crate::number::{push_u8, push_u16, push_u32, push_u64};
@@ -25,10 +24,9 @@ pub fn write_answer(
     Ok(text)
 }
 
-/// Appends the reply's frame to a text, as `write_answer` makes it. Where memory runs out, a part of the
-/// frame may stand behind the text.
+// Appends the reply's frame to a text. Where memory runs out, a part of the frame may stand behind the text.
 #[tactic(auto, unfolding(crate::specs::Frames::spelled))]
-pub fn append_answer(
+fn append_answer(
     text: &mut Vec<u8>,
     session: u16,
     number: u32,

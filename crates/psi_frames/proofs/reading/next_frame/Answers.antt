@@ -1,6 +1,6 @@
 use Rattle.std.proofs.Common.{◌≡◌, ◌++◌, true, false, sym, ap, subst, ◌∙◌}
 use Rattle.psi_frames.specs.Frames.{frame_bytes}
-use Rattle.psi_frames.specs.Inputs.{IsPlainFrame, begins_frame}
+use Rattle.psi_frames.specs.Inputs.{IsPutDropAskFrame, begins_frame}
 use Rattle.psi_frames.proofs.WholeFrames.{begins_frame-tells, begins_frame-frame}
 use Rattle.psi_frames.proofs.reading.next_frame.Goals as goal
 
@@ -14,4 +14,4 @@ pub returns-clause-found : goal.returns-clause-found
 returns-clause-found c =
     let told = begins_frame-tells c.args.bytes.now (λ i. (c.type_inv.bytes i).fits) (sym c.begins_frame.ensures ∙ c.if-not-begins_frame.false) in
     let split = c.in_ok-frame.ensures in
-    (subst IsPlainFrame (sym split.0) told.0, told.1 ∙ (λ i. frame_bytes (sym split.0 i) ++ sym split.1 i))
+    (subst IsPutDropAskFrame (sym split.0) told.0, told.1 ∙ (λ i. frame_bytes (sym split.0 i) ++ sym split.1 i))

@@ -2,13 +2,12 @@ use Rattle.std.proofs.Common.{◌≡◌, ◌++◌, [], ◌∷◌, List, ℕ, len
 use Rattle.std.proofs.lemmas.Bool.{eqb-true}
 use Rattle.std.proofs.lemmas.Bool.Decides.{nat_tests}
 use Rattle.std.proofs.lemmas.Result.{err_from_is_err_and}
-use Rattle.std.proofs.lemmas.List.{append-nil, nil_from_length}
 use Rattle.std.proofs.lemmas.List.Elements.{All-push, All-same}
 use Rattle.psi_frames.specs.declared.reading.FramesFault.TheVariants.{Bad}
 use Rattle.psi_frames.specs.Frames.{frames_bytes}
-use Rattle.psi_frames.specs.FrameLaws.{length-frame_append}
-use Rattle.psi_frames.specs.Inputs.{IsPlainFrame}
-use Rattle.psi_frames.proofs.WholeFrames.{no_input, one_more, same_input}
+use Rattle.psi_frames.proofs.FrameLaws.{length-frame_append}
+use Rattle.psi_frames.specs.Inputs.{IsPutDropAskFrame}
+use Rattle.psi_frames.proofs.WholeFrames.{all_frames, no_input, one_more, same_input}
 use Rattle.psi_frames.proofs.reading.whole_frames.Goals as goal
 
 pub returns-in_err-frame-clause-bad : goal.returns-in_err-frame-clause-bad
@@ -30,12 +29,16 @@ loop-rest-preserved c =
     let x = c.in_ok-frame.behind.now in
     let found = c.in_ok-frame.ensures.found in
     record {
+      short = c.loop-rest.invariant.short;
       whole = c.loop-rest.invariant.whole ∙ ap (λ (t : List ℕ). frames_bytes vs ++ t) found.1 ∙ one_more vs f x ∙ ap (λ t. frames_bytes t ++ x) (sym c.in_ok-add_frame.ensures);
-      each = All-same IsPlainFrame c.add_frame.new.frames.items (vs ++ f ∷ []) c.in_ok-add_frame.ensures (All-push IsPlainFrame vs f c.loop-rest.invariant.each found.0);
+      each = All-same IsPutDropAskFrame c.add_frame.new.frames.items (vs ++ f ∷ []) c.in_ok-add_frame.ensures (All-push IsPutDropAskFrame vs f c.loop-rest.invariant.each found.0);
     }
 
-pub returns-clause-only : goal.returns-clause-only
-returns-clause-only c = λ fs are.
+pub returns-clause-found : goal.returns-clause-found
+returns-clause-found c =
+    let left = c.loop-rest.invariant in
     let none : length c.loop-rest.rest.now ≡ 0 = eqb-true (length c.loop-rest.rest.now) 0 (sym c.is_empty.ensures ∙ c.loop-rest-test.false) in
-    let all : c.args.bytes.now ≡ frames_bytes c.loop-rest.frames.items = c.loop-rest.invariant.whole ∙ ap (λ (t : List ℕ). frames_bytes c.loop-rest.frames.items ++ t) (nil_from_length c.loop-rest.rest.now none) ∙ append-nil (frames_bytes c.loop-rest.frames.items) in
-    same_input c.args.bytes.now fs c.loop-rest.frames.items are (record { whole = all; each = c.loop-rest.invariant.each })
+    all_frames c.args.bytes.now c.loop-rest.rest.now c.loop-rest.frames.items left.short left.whole none left.each
+
+pub returns-clause-only : goal.returns-clause-only
+returns-clause-only c = λ fs are. same_input c.args.bytes.now fs c.loop-rest.frames.items are (returns-clause-found c)

@@ -3,7 +3,7 @@ use Rattle.std.proofs.lemmas.Result.{on_ok_weaker}
 use Rattle.byteorder.specs.Endian.{big_bytes}
 use Rattle.psi_frames.specs.declared.reply.Reply.{Reply}
 use Rattle.psi_frames.specs.Frames.{reply_bytes}
-use Rattle.psi_frames.proofs.Spelled.{placed}
+use Rattle.psi_frames.proofs.Spelled.{coded, placed, placed-alone}
 use Rattle.psi_frames.proofs.writing.append_answer.Goals as goal
 
 pub returns-in_ok-push_u32-in-Full : goal.returns-in_ok-push_u32-in-Full
@@ -64,4 +64,51 @@ returns-in_ok-push_u64-in-Moved c =
           (λ last. last ∙ ap (λ (t : List ℕ). t ++ stamp) c.in_ok-push_u64-in-Moved.ensures ∙ append_assoc begun from stamp ∙ whole
           ∙ ap (λ (r : Reply). old ++ reply_bytes c.args.session c.args.number r) (sym c.in-Moved.is))
           c.push_u64-in-Moved-2.ensures;
+    }
+
+pub returns-in-Added : goal.returns-in-Added
+returns-in-Added c =
+    let old = c.args.text.now.items in
+    record {
+      appended = on_ok_weaker c.push_placed.result
+          (λ last. placed-alone old _ 129 c.args.session c.args.number c.in-Added.place last ∙ ap (λ (r : Reply). old ++ reply_bytes c.args.session c.args.number r) (sym c.in-Added.is))
+          c.push_placed.ensures;
+    }
+
+pub returns-in-Replaced : goal.returns-in-Replaced
+returns-in-Replaced c =
+    let old = c.args.text.now.items in
+    record {
+      appended = on_ok_weaker c.push_placed-in-Replaced.result
+          (λ last. placed-alone old _ 130 c.args.session c.args.number c.in-Replaced.place last ∙ ap (λ (r : Reply). old ++ reply_bytes c.args.session c.args.number r) (sym c.in-Replaced.is))
+          c.push_placed-in-Replaced.ensures;
+    }
+
+pub returns-in-Removed : goal.returns-in-Removed
+returns-in-Removed c =
+    let old = c.args.text.now.items in
+    record {
+      appended = on_ok_weaker c.push_placed-in-Removed.result
+          (λ last. placed-alone old _ 131 c.args.session c.args.number c.in-Removed.place last ∙ ap (λ (r : Reply). old ++ reply_bytes c.args.session c.args.number r) (sym c.in-Removed.is))
+          c.push_placed-in-Removed.ensures;
+    }
+
+pub returns-in-Absent : goal.returns-in-Absent
+returns-in-Absent c =
+    let old = c.args.text.now.items in
+    record {
+      appended = on_ok_weaker c.push_placed-in-Absent.result
+          (λ last. placed-alone old _ 132 c.args.session c.args.number c.in-Absent.place last ∙ ap (λ (r : Reply). old ++ reply_bytes c.args.session c.args.number r) (sym c.in-Absent.is))
+          c.push_placed-in-Absent.ensures;
+    }
+
+pub returns-in_ok-push_head-in-Refused : goal.returns-in_ok-push_head-in-Refused
+returns-in_ok-push_head-in-Refused c =
+    let old = c.args.text.now.items in
+    let begun = c.push_head.new.text.items in
+    record {
+      appended = on_ok_weaker c.push_u8.result
+          (λ last. last ∙ coded old begun 137 c.args.session c.args.number c.in-Refused.code c.in_ok-push_head-in-Refused.ensures
+          ∙ ap (λ (r : Reply). old ++ reply_bytes c.args.session c.args.number r) (sym c.in-Refused.is))
+          c.push_u8.ensures;
     }
