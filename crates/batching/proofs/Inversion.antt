@@ -5,8 +5,8 @@ use Rattle.std.proofs.lemmas.Nat.{mul-mod_first, mul-mod_second, pow-add}
 use Rattle.std.proofs.Math.Nat.{pow-zero}
 use Rattle.psi_residue.specs.Sums.{sum_below}
 use Rattle.psi_residue.specs.Slots.{value_at_odd, coefficient_from}
-use Rattle.psi_residue.proofs.Sums.{sum_below-same, sum_below-times}
-use Rattle.batching.proofs.Sums.{mul-vanishing, sum_below-mod, sum_below-constant, sum_below-exchange, sum_below-one}
+use Rattle.psi_residue.proofs.Sums.{sum_below-same, sum_below-times, sum_below-constant, sum_below-swap}
+use Rattle.psi_residue.proofs.Congruences.{times_multiple, sum_below-mod, sum_below-one}
 use Rattle.batching.proofs.Roots.{powers_vanish, balanced}
 
 -- the power of two n = 2^k, two inverse numbers whose n-th powers are -1, and the inverse of n, all modulo m
@@ -32,7 +32,7 @@ coefficients_apart : (m k x y b d : ℕ) → (x * y) % m ≡ 1 % m → (x ^ 2 ^ 
 coefficients_apart m k x y b d inverse forward positive lt =
     sum_below-mod m (2 ^ k) (λ j. x ^ ((2 * j + 1) * (b + d)) * y ^ ((2 * j + 1) * b)) (λ j. x ^ d * x ^ (2 * d * j)) (λ j below. term j)
     ∙ ap (λ (u : ℕ). u % m) (sum_below-times (2 ^ k) (x ^ d) (λ j. x ^ (2 * d * j)))
-    ∙ mul-vanishing m (x ^ d) (sum_below (2 ^ k) (λ j. x ^ (2 * d * j))) (powers_vanish m k x d forward positive lt)
+    ∙ times_multiple m (x ^ d) (sum_below (2 ^ k) (λ j. x ^ (2 * d * j))) (powers_vanish m k x d forward positive lt)
   where
     exponents : (j : ℕ) → (2 * j + 1) * (b + d) ≡ (2 * j + 1) * b + (d + 2 * d * j)
     exponents j = omega arith
@@ -100,10 +100,10 @@ inverted : (m n l : ℕ) (v : ℕ → ℕ) (a : ℕ → ℕ → ℕ) (b : ℕ �
 inverted m n l v a b lt others here =
     ap (λ (u : ℕ). u % m) (
     sum_below-same n (λ i. sum_below n (λ j. v j * a j i) * b i) (λ i. sum_below n (λ j. v j * (a j i * b i))) (λ i below. inside i)
-    ∙ sum_below-exchange n n (λ i j. v j * (a j i * b i))
+    ∙ sum_below-swap n n (λ i j. v j * (a j i * b i))
     ∙ sum_below-same n (λ j. sum_below n (λ i. v j * (a j i * b i))) (λ j. v j * sum_below n (λ i. a j i * b i)) (λ j below. sum_below-times n (v j) (λ i. a j i * b i))
     )
-    ∙ sum_below-one m n l (λ j. v j * sum_below n (λ i. a j i * b i)) lt (λ j below ne. mul-vanishing m (v j) (sum_below n (λ i. a j i * b i)) (others j below ne))
+    ∙ sum_below-one m n l (λ j. v j * sum_below n (λ i. a j i * b i)) lt (λ j below ne. times_multiple m (v j) (sum_below n (λ i. a j i * b i)) (others j below ne))
     ∙ sym (mul-mod_second (v l) (sum_below n (λ i. a l i * b i)) m)
     ∙ ap (λ (u : ℕ). (v l * u) % m) here
     ∙ mul-mod_second (v l) n m

@@ -1,4 +1,3 @@
-pub mod Sums
 pub mod Roots
 pub mod Inversion
 pub mod Batches

@@ -4,38 +4,14 @@ use Rattle.std.proofs.lemmas.Bool.{cases_eq}
 use Rattle.std.proofs.lemmas.Nat.{mul-mod_first, pow-mod, mul-pow, pow-add}
 use Rattle.std.proofs.Math.Nat.{pow-succ', pow-zero}
 use Rattle.psi_residue.specs.Sums.{sum_below}
-use Rattle.psi_residue.proofs.Sums.{sum_below-same, sum_below-times}
-use Rattle.batching.proofs.Sums.{add-vanishing, mul-vanishing, sum_below-halves}
-
-pub pow-pow : (x a b : ℕ) → (x ^ a) ^ b ≡ x ^ (a * b)
-pow-pow x a zero = let e : a * 0 ≡ 0 = omega arith in pow-zero (x ^ a) ∙ sym (ap (λ (j : ℕ). x ^ j) e ∙ pow-zero x)
-pow-pow x a (suc b) =
-    let e : a * suc b ≡ a + a * b = omega arith in
-    pow-succ' (x ^ a) b ∙ ap (λ (u : ℕ). x ^ a * u) (pow-pow x a b) ∙ sym (ap (λ (j : ℕ). x ^ j) e ∙ pow-add x a (a * b))
-
--- an odd power of -1 is -1
-pub odd_power : (m a e : ℕ) → (a + 1) % m ≡ 0 → (a ^ (2 * e + 1) + 1) % m ≡ 0
-odd_power m a zero h =
-    let e : 2 * 0 + 1 ≡ suc 0 = omega arith in
-    let one : a * 1 ≡ a = omega arith in
-    ap (λ (u : ℕ). (u + 1) % m) (ap (λ (j : ℕ). a ^ j) e ∙ pow-succ' a 0 ∙ ap (λ (u : ℕ). a * u) (pow-zero a) ∙ one) ∙ h
-odd_power m a (suc e) h =
-    let exponent : 2 * suc e + 1 ≡ suc (suc (2 * e + 1)) = omega arith in
-    ap (λ (u : ℕ). (u + 1) % m) (ap (λ (j : ℕ). a ^ j) exponent ∙ pow-succ' a (suc (2 * e + 1)) ∙ ap (λ (u : ℕ). a * u) (pow-succ' a (2 * e + 1)))
-    ∙ step (a ^ (2 * e + 1)) (odd_power m a e h)
-  where
-    step : (b : ℕ) → (b + 1) % m ≡ 0 → (a * (a * b) + 1) % m ≡ 0
-    step b before =
-        let whole : a * (a * b) + 1 + b * (a + 1) ≡ b + 1 + a * b * (a + 1) = omega arith in
-        sym (add-vanishing m (a * (a * b) + 1) (b * (a + 1)) (mul-vanishing m b (a + 1) h))
-        ∙ ap (λ (u : ℕ). u % m) whole
-        ∙ add-vanishing m (b + 1) (a * b * (a + 1)) (mul-vanishing m (a * b) (a + 1) h)
-        ∙ before
+use Rattle.psi_residue.proofs.Sums.{sum_below-same, sum_below-times, sum_below-split}
+use Rattle.psi_residue.proofs.Congruences.{times_multiple}
+use Rattle.psi_residue.proofs.Powers.{pow-pow, odd_power}
 
 -- the sum of the first 2n powers of z is 1 + z^n times that of the first n
 doubled : (n d w : ℕ) → sum_below (n + n) (λ i. w ^ (d * i)) ≡ (w ^ (d * n) + 1) * sum_below n (λ i. w ^ (d * i))
 doubled n d w =
-    sum_below-halves n n (λ i. w ^ (d * i))
+    sum_below-split n n (λ i. w ^ (d * i))
     ∙ ap (λ (u : ℕ). sum_below n (λ i. w ^ (d * i)) + u)
     (sum_below-same n (λ i. w ^ (d * (n + i))) (λ i. w ^ (d * n) * w ^ (d * i)) (λ i lt. parts i) ∙ sum_below-times n (w ^ (d * n)) (λ i. w ^ (d * i)))
     ∙ collected (sum_below n (λ i. w ^ (d * i))) (w ^ (d * n))
@@ -59,12 +35,12 @@ powers_vanish m (suc k) w d h positive below =
       | inl odd ↦
           let d-is : 2 * (d / 2) + 1 ≡ d = omega arith in
           ap (λ (u : ℕ). u % m) (turned (w ^ (2 * d * 2 ^ k) + 1) (sum_below (2 ^ k) (λ i. w ^ (2 * d * i))))
-          ∙ mul-vanishing m (sum_below (2 ^ k) (λ i. w ^ (2 * d * i))) (w ^ (2 * d * 2 ^ k) + 1)
+          ∙ times_multiple m (sum_below (2 ^ k) (λ i. w ^ (2 * d * i))) (w ^ (2 * d * 2 ^ k) + 1)
           (ap (λ (u : ℕ). (u + 1) % m) (as_power (2 ^ k) (2 ^ suc k) (two_halves k) ∙ ap (λ (j : ℕ). (w ^ 2 ^ suc k) ^ j) (sym d-is))
           ∙ odd_power m (w ^ 2 ^ suc k) (d / 2) h)
       | inr even ↦
           let d-is : 2 * (d / 2) ≡ d = omega arith in
-          mul-vanishing m (w ^ (2 * d * 2 ^ k) + 1) (sum_below (2 ^ k) (λ i. w ^ (2 * d * i)))
+          times_multiple m (w ^ (2 * d * 2 ^ k) + 1) (sum_below (2 ^ k) (λ i. w ^ (2 * d * i)))
           (ap (λ (u : ℕ). u % m) (sum_below-same (2 ^ k) (λ i. w ^ (2 * d * i)) (λ i. (w ^ 2) ^ (2 * (d / 2) * i)) (λ i lt. squared (d / 2) d-is i))
           ∙ powers_vanish m k (w ^ 2) (d / 2) (square_h (2 ^ k) (2 ^ suc k) (two_halves k) h) (omega arith) (let e = two_halves k in omega (arith, e)))
     ]

@@ -1,16 +1,14 @@
 -- Running powers, the sums over them, and lists that are written from the front.
-use Rattle.std.proofs.Common.{◌≡◌, ℕ, suc, ◌+◌, ◌*◌, ◌%◌, ◌^◌, ◌<◌, ◌≤◌, List, length, get_or, set, refl, ap, ◌∙◌, sym, inl, inr, arith}
-use Rattle.std.proofs.lemmas.Bool.{cases_lt}
-use Rattle.std.proofs.lemmas.List.{get_or-set_other}
-use Rattle.std.proofs.lemmas.Grind.{get_or-set_at}
+use Rattle.std.proofs.Common.{◌≡◌, ℕ, suc, ◌+◌, ◌*◌, ◌%◌, ◌^◌, ◌<◌, ◌≤◌, List, length, get_or, set, refl, ap, ◌∙◌, sym, arith}
 use Rattle.std.proofs.lemmas.Nat.{mul-le, mul-mod_first, mul-mod_second, pow-mod, pow-add, mul-pow}
 use Rattle.std.proofs.Math.Nat.{pow-succ', pow-zero, mod-eq_of_lt}
 use Rattle.psi_residue.specs.Numbers.{root, root_inverse, degree_inverse}
 use Rattle.psi_residue.specs.Slots.{value_at_odd, coefficient_from, packed_at, slot_of}
 use Rattle.psi_residue.specs.Sums.{sum_below}
 use Rattle.psi_residue.proofs.Sums.{sum_below-zero, sum_below-more}
-use Rattle.batching.proofs.Sums.{sum_below-mod}
-use Rattle.batching.proofs.Roots.{pow-pow}
+use Rattle.psi_residue.proofs.Congruences.{times_congruent, sum_below-mod}
+use Rattle.psi_residue.proofs.Powers.{pow-more, pow-pow}
+use Rattle.psi_residue.proofs.Filling.{up_done}
 
 -- ---- lists
 
@@ -22,13 +20,7 @@ pub IsWritten-none : (f : ℕ → ℕ) (out : List ℕ) → IsWritten f out 0
 IsWritten-none f out = record { each = λ k lt. absurd (omega arith) }
 
 pub IsWritten-more : (f : ℕ → ℕ) (out : List ℕ) (n y : ℕ) → IsWritten f out n → n < length out → y ≡ f n → IsWritten f (set out n y) (n + 1)
-IsWritten-more f out n y so_far lt y-is = record {
-  each = λ k below.
-      elim (cases_lt k n) [
-        | inl before ↦ get_or-set_other out n k y 0 (λ e. omega arith) ∙ so_far.each k before
-        | inr after ↦ let here : k ≡ n = omega arith in get_or-set_at out n k y 0 here lt ∙ y-is ∙ ap f (sym here)
-      ];
-}
+IsWritten-more f out n y so_far lt y-is = record { each = up_done f out n y lt y-is so_far.each }
 
 -- ---- running sums
 
@@ -63,13 +55,8 @@ term-bound value power term value-is v_lt p_le = mul-le value power 65536 65536 
 times_one : (u : ℕ) → 1 * u ≡ u
 times_one u = omega arith
 
-pow-more : (x k : ℕ) → x ^ (k + 1) ≡ x ^ k * x
-pow-more x k =
-    let e : k + 1 ≡ suc k = omega arith in
-    ap (λ (j : ℕ). x ^ j) e ∙ pow-succ' x k ∙ turned x (x ^ k)
-  where
-    turned : (a b : ℕ) → a * b ≡ b * a
-    turned a b = omega arith
+pow-next : (x k : ℕ) → x ^ k * x ≡ x ^ (k + 1)
+pow-next x k = let power = pow-more x k in omega (arith, power)
 
 pub first_term : (m first ratio : ℕ) → first < m → first ≡ (first * ratio ^ 0) % m
 first_term m first ratio lt =
@@ -80,7 +67,7 @@ pub next_term : (m first ratio n power : ℕ) → power ≡ (first * ratio ^ n) 
 next_term m first ratio n power power-is =
     ap (λ (u : ℕ). (u * ratio) % m) power-is
     ∙ mul-mod_first (first * ratio ^ n) ratio m
-    ∙ ap (λ (u : ℕ). u % m) (regrouped first (ratio ^ n) ratio ∙ ap (λ (u : ℕ). first * u) (sym (pow-more ratio n)))
+    ∙ ap (λ (u : ℕ). u % m) (regrouped first (ratio ^ n) ratio ∙ ap (λ (u : ℕ). first * u) (pow-next ratio n))
   where
     regrouped : (a b c : ℕ) → a * b * c ≡ a * (b * c)
     regrouped a b c = omega arith
@@ -103,7 +90,7 @@ next_power i power power-is =
     ap (λ (u : ℕ). (power * u) % 65537) inverse-is
     ∙ ap (λ (u : ℕ). (u * root_inverse) % 65537) power-is
     ∙ mul-mod_first (root_inverse ^ i) root_inverse 65537
-    ∙ ap (λ (u : ℕ). u % 65537) (sym (pow-more root_inverse i))
+    ∙ ap (λ (u : ℕ). u % 65537) (pow-next root_inverse i)
 
 -- the odd powers of a number by its square
 odd-power : (x k : ℕ) → x * (x * x) ^ k ≡ x ^ (2 * k + 1)
@@ -124,17 +111,13 @@ odd-term m y i k power square power-is square-is =
     ∙ pow-mod (y ^ i) (2 * k + 1) m
     ∙ ap (λ (u : ℕ). u % m) (pow-pow y i (2 * k + 1) ∙ ap (λ (j : ℕ). y ^ j) e)
 
--- congruent factors
-same_terms : (m v a b : ℕ) → a % m ≡ b % m → (v * a) % m ≡ (v * b) % m
-same_terms m v a b h = sym (mul-mod_second v a m) ∙ ap (λ (u : ℕ). (v * u) % m) h ∙ mul-mod_second v b m
-
 pub packed_of-is : (v : List ℕ) (i power square sum : ℕ) → power ≡ root_inverse ^ i % 65537 → square ≡ (power * power) % 65537 → sum ≡ sum_below 4096 (λ k. get_or v k 0 * (power * square ^ k)) % 65537 → (65521 * sum) % 65537 ≡ packed_of v i
 unfolding packed_of packed_at coefficient_from degree_inverse
 packed_of-is v i power square sum power-is square-is sum-is =
     ap (λ (u : ℕ). (65521 * u) % 65537) (
     sum-is
     ∙ sum_below-mod 65537 4096 (λ k. get_or v k 0 * (power * square ^ k)) (λ k. get_or v k 0 * root_inverse ^ ((2 * k + 1) * i))
-    (λ k lt. same_terms 65537 (get_or v k 0) (power * square ^ k) (root_inverse ^ ((2 * k + 1) * i)) (odd-term 65537 root_inverse i k power square power-is square-is))
+    (λ k lt. times_congruent 65537 (get_or v k 0) (power * square ^ k) (root_inverse ^ ((2 * k + 1) * i)) (odd-term 65537 root_inverse i k power square power-is square-is))
     )
     ∙ mul-mod_second 65521 (sum_below 4096 (λ k. get_or v k 0 * root_inverse ^ ((2 * k + 1) * i))) 65537
 
@@ -166,7 +149,7 @@ unfolding slot_of value_at_odd
 slot_of-is p j power sum power-is sum-is =
     sum-is
     ∙ sum_below-mod 65537 4096 (λ k. get_or p k 0 * (1 * power ^ k)) (λ k. get_or p k 0 * root ^ ((2 * j + 1) * k))
-    (λ k lt. same_terms 65537 (get_or p k 0) (1 * power ^ k) (root ^ ((2 * j + 1) * k)) (power-term k))
+    (λ k lt. times_congruent 65537 (get_or p k 0) (1 * power ^ k) (root ^ ((2 * j + 1) * k)) (power-term k))
   where
     power-term : (k : ℕ) → (1 * power ^ k) % 65537 ≡ root ^ ((2 * j + 1) * k) % 65537
     power-term k =

@@ -1,15 +1,15 @@
 -- An encryption carries its plaintext.
 use Rattle.std.proofs.Common.{◌≡◌, ℕ, suc, ◌+◌, ◌-◌, ◌*◌, ◌/◌, ◌%◌, ◌<◌, ◌≤◌, List, ap, sym, ◌∙◌, arith, ℤ, pos, negsuc, unsigned_abs, slice_index}
-use Rattle.std.proofs.Math.Nat.{mod-add-mod, add-mod_right, add-mul-mod_self_left, div-add-mod}
+use Rattle.std.proofs.Math.Nat.{mod-add-mod, add-mod_right, add-mul-mod_self_left, div-add-mod, mod-eq_of_lt}
 use Rattle.psi_residue.specs.Numbers.{first_modulus, second_modulus, cipher_modulus, scale}
 use Rattle.psi_residue.specs.Ring.{product_at}
 use Rattle.psi_residue.specs.Residues.{residue_of, residues_of, composed}
 use Rattle.psi_residue.proofs.Sums.{slice_index-table}
 use Rattle.psi_residue.proofs.Composition.{same_residues, composed-first, composed-second}
+use Rattle.negacyclic.proofs.Products.{product_at-below}
 use Rattle.psi_sampler.specs.Sampling.{error_coefficient}
 use Rattle.bfv_core.specs.Encryptions.{phase_residue, phase, IsNear, Carries}
 use Rattle.bfv_core.specs.EncryptedLists.{hidden, encrypted, key_of_seed, first_mask, second_mask}
-use Rattle.bfv_core.proofs.Tables.{product_at-below}
 
 -- what is taken away and added again
 unmasked : (m e p s : ℕ) → p < m → ((e + (m - p) + s) % m + p) % m ≡ (e + s) % m
@@ -72,7 +72,7 @@ pub near_composed : (a b bound s : ℕ) (error : ℤ)
 near_composed a b bound s error first second small =
     let below_first : a < first_modulus = omega (arith, first) in
     let below_second : b < second_modulus = omega (arith, second) in
-    near_from (composed a b) bound s error (composed-first a b below_first ∙ first) (composed-second a b below_second ∙ second) small
+    near_from (composed a b) bound s error (composed-first a b ∙ mod-eq_of_lt below_first ∙ first) (composed-second a b ∙ mod-eq_of_lt below_second ∙ second) small
 
 pub carries-encrypted : (seed : List ℕ) (c : ℕ) (plain : List ℕ) → ((k : ℕ) → k < 4096 → unsigned_abs (error_coefficient seed c k) ≤ 21)
     → Carries 21 (key_of_seed seed) (encrypted seed c plain) plain

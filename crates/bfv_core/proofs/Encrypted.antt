@@ -6,11 +6,10 @@ use Rattle.std.proofs.lemmas.List.FromFn.{fill_by_all}
 use Rattle.psi_residue.specs.Numbers.{first_modulus, second_modulus, scale}
 use Rattle.psi_residue.specs.Ring.{product_at}
 use Rattle.psi_residue.specs.Residues.{residue_of, residues_of}
-use Rattle.psi_residue.proofs.Sums.{same_as_table}
+use Rattle.psi_residue.proofs.Sums.{same_as_table, table-same}
 use Rattle.psi_sampler.specs.Sampling.{key_coefficient, first_mask_residue, second_mask_residue, error_coefficient}
 use Rattle.bfv_core.specs.Encryptions.{Carries}
 use Rattle.bfv_core.specs.EncryptedLists.{key_of_seed, hidden, encrypted, first_mask, second_mask}
-use Rattle.bfv_core.proofs.Tables.{table-same}
 use Rattle.bfv_core.proofs.FourLists.{four_written}
 use Rattle.bfv_core.proofs.Carrying.{carries-encrypted}
 

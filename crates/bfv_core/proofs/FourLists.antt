@@ -6,7 +6,7 @@ use Rattle.psi_residue.specs.Ciphertexts.{IsCiphertext, list_at, list_modulus}
 use Rattle.psi_residue.proofs.Polynomials.{IsPolynomial-constant}
 use Rattle.psi_residue.specs.Ring.{product}
 use Rattle.bfv_core.specs.EncryptedLists.{added, list_with_product}
-use Rattle.bfv_core.proofs.Filling.{IsFilled, IsFilled-more}
+use Rattle.psi_residue.proofs.Filling.{IsFilled, IsFilled-more}
 
 -- a list of four
 pub four : (xs : List (List ℕ)) → length xs ≡ 4 → xs ≡ list_at xs 0 ∷ list_at xs 1 ∷ list_at xs 2 ∷ list_at xs 3 ∷ []

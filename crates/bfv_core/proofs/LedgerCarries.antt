@@ -2,8 +2,7 @@
 use Rattle.std.proofs.Common.{◌≡◌, ℕ, ◌+◌, ◌-◌, ◌*◌, ◌/◌, ◌%◌, ◌<◌, ◌≤◌, refl, ap, ◌∙◌, sym, inl, inr, arith}
 use Rattle.std.proofs.lemmas.Bool.{cases_lt}
 use Rattle.std.proofs.lemmas.Nat.{le-div}
-use Rattle.bfv_core.proofs.LedgerSums.{mod-add, mod-minus}
-use Rattle.bfv_core.proofs.LedgerResidues.{mod-witness, mod-from_witness}
+use Rattle.psi_residue.proofs.Congruences.{sum_congruent, minus_one-times, mod-witness, mod-from_witness}
 
 -- x is y and t times `up` less `down`
 pub record CarryOf (t bound x y : ℕ) : Type 0 where
@@ -76,8 +75,8 @@ near-carried q c delta r z x y m more less up down e near scaled =
     let second : delta * (x + c * y) + more + r * up ≡ delta * x + r * up + (c * (delta * y) + more) = omega arith in
     let third : delta * y + delta * m + r * down + (c * (delta * y) + more) ≡ delta * m + (more + r * down) + c * (delta * y) + delta * y = omega arith in
     ap (λ (u : ℕ). u % q) first
-    ∙ mod-add q (z + less) (delta * (x + c * y) + more) (r * up) (r * up) near refl
+    ∙ sum_congruent q (z + less) (delta * (x + c * y) + more) (r * up) (r * up) near refl
     ∙ ap (λ (u : ℕ). u % q) second
-    ∙ mod-add q (delta * x + r * up) (delta * y + delta * m + r * down) (c * (delta * y) + more) (c * (delta * y) + more) scaled refl
+    ∙ sum_congruent q (delta * x + r * up) (delta * y + delta * m + r * down) (c * (delta * y) + more) (c * (delta * y) + more) scaled refl
     ∙ ap (λ (u : ℕ). u % q) third
-    ∙ mod-minus q c (delta * y) (delta * m + (more + r * down)) e
+    ∙ minus_one-times q c (delta * y) (delta * m + (more + r * down)) e

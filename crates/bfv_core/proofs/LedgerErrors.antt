@@ -3,9 +3,9 @@ use Rattle.std.proofs.Common.{◌≡◌, ℕ, suc, ◌+◌, ◌*◌, ◌%◌, �
 use Rattle.std.proofs.lemmas.Bool.{cases_lt}
 use Rattle.psi_residue.specs.Sums.{sum_below}
 use Rattle.psi_residue.proofs.Sums.{sum_below-add, sum_below-bound}
+use Rattle.psi_residue.proofs.Congruences.{sum_congruent, minus_one-times, sum_below-mod}
+use Rattle.negacyclic.proofs.Ring.{ring, ring-plus, ring-mod, ring-bound, spread, spread-ring}
 use Rattle.bfv_core.specs.Encryptions.{IsNear}
-use Rattle.bfv_core.proofs.LedgerSums.{mod-add, mod-minus, sum-mod}
-use Rattle.bfv_core.proofs.LedgerRing.{ring, ring-plus, ring-mod, ring-bound, spread, spread-ring}
 
 -- The two numbers by which one is near another, and which are 0 where nothing is said.
 pub record ErrorAt (count top q bound k i x y : ℕ) : Type 0 where
@@ -62,11 +62,11 @@ near-product top q c p x y more less e zp zm zl near k le =
     turned x y lessl lessh morel moreh h =
         let left : x + (lessl + moreh) + c * lessh + lessh ≡ x + (lessl + c * lessh) + (moreh + lessh) = omega arith in
         let right : y + (morel + c * moreh) + (moreh + lessh) ≡ y + (morel + lessh) + c * moreh + moreh = omega arith in
-        sym (mod-minus q c lessh (x + (lessl + moreh)) e)
+        sym (minus_one-times q c lessh (x + (lessl + moreh)) e)
         ∙ ap (λ (u : ℕ). u % q) left
-        ∙ mod-add q (x + (lessl + c * lessh)) (y + (morel + c * moreh)) (moreh + lessh) (moreh + lessh) h refl
+        ∙ sum_congruent q (x + (lessl + c * lessh)) (y + (morel + c * moreh)) (moreh + lessh) (moreh + lessh) h refl
         ∙ ap (λ (u : ℕ). u % q) right
-        ∙ mod-minus q c moreh (y + (morel + lessh)) e
+        ∙ minus_one-times q c moreh (y + (morel + lessh)) e
 
 -- both errors of that product together are small
 pub error-bound : (top a b : ℕ) (p more less : ℕ → ℕ)
@@ -85,7 +85,7 @@ pub near-sum : (q count : ℕ) (x y more less : ℕ → ℕ) → ((k : ℕ) → 
     → (sum_below count x + sum_below count less) % q ≡ (sum_below count y + sum_below count more) % q
 near-sum q count x y more less h =
     ap (λ (u : ℕ). u % q) (sym (sum_below-add count x less))
-    ∙ sum-mod q count (λ k. x k + less k) (λ k. y k + more k) h
+    ∙ sum_below-mod q count (λ k. x k + less k) (λ k. y k + more k) h
     ∙ ap (λ (u : ℕ). u % q) (sum_below-add count y more)
 
 -- what the product with number k of the plaintexts p adds to a number that is near by these errors, and what it takes away

@@ -8,13 +8,13 @@ use Rattle.psi_residue.specs.Numbers.{first_modulus, second_modulus, cipher_modu
 use Rattle.psi_residue.specs.Ring.{product_at}
 use Rattle.psi_residue.specs.Residues.{residue_of, residues_of}
 use Rattle.psi_residue.proofs.Sums.{length-table, slice_index-table}
+use Rattle.psi_residue.proofs.Congruences.{sum_congruent, sum_below-mod}
+use Rattle.negacyclic.proofs.Ring.{ring}
+use Rattle.negacyclic.proofs.Products.{product-ring}
+use Rattle.psi_residue.proofs.Composition.{composed-first, composed-second, composed-is}
 use Rattle.psi_residue.specs.Ciphertexts.{list_at, IsCiphertext}
 use Rattle.bfv_core.specs.Encryptions.{phase_residue, phase}
 use Rattle.psi_residue.specs.Evaluations.{evaluated_at, evaluated}
-use Rattle.bfv_core.proofs.LedgerSums.{mod-add, sum-mod}
-use Rattle.bfv_core.proofs.LedgerRing.{ring}
-use Rattle.bfv_core.proofs.LedgerProducts.{product-ring}
-use Rattle.bfv_core.proofs.LedgerResidues.{composed-first, composed-second, composed-is}
 use Rattle.bfv_core.proofs.LedgerPhases.{phase-sum}
 
 -- -1 modulo the ciphertext modulus, and so modulo both residue moduli
@@ -45,10 +45,10 @@ evaluated-c0 : (m c count : ℕ) (factors lists : ℕ → List ℕ) → 0 < m �
 unfolding evaluated_at
 evaluated-c0 m c count factors lists positive e lf ll i le =
     mod-mod (sum_below count (λ k. product_at m 4096 (factors (k + 1)) (lists k) i) + scale * coefficient (factors 0) i) m
-    ∙ mod-add m (sum_below count (λ k. product_at m 4096 (factors (k + 1)) (lists k) i))
+    ∙ sum_congruent m (sum_below count (λ k. product_at m 4096 (factors (k + 1)) (lists k) i))
     (sum_below count (λ k. ring 4095 c (coefficient (factors (k + 1))) (coefficient (lists k)) i))
     (scale * coefficient (factors 0) i) (scale * coefficient (factors 0) i)
-    (sum-mod m count (λ k. product_at m 4096 (factors (k + 1)) (lists k) i) (λ k. ring 4095 c (coefficient (factors (k + 1))) (coefficient (lists k)) i)
+    (sum_below-mod m count (λ k. product_at m 4096 (factors (k + 1)) (lists k) i) (λ k. ring 4095 c (coefficient (factors (k + 1))) (coefficient (lists k)) i)
     (λ k lt. product-ring m c 4095 (factors (k + 1)) (lists k) positive e (lf k lt) (ll k lt) i le))
     refl
 
@@ -60,7 +60,7 @@ unfolding evaluated_at
 evaluated-c1 m c count factors lists positive e lf ll i le =
     mod-mod (sum_below count (λ k. product_at m 4096 (factors (k + 1)) (lists k) i) + 0) m
     ∙ ap (λ (u : ℕ). u % m) (plus_none (sum_below count (λ k. product_at m 4096 (factors (k + 1)) (lists k) i)))
-    ∙ sum-mod m count (λ k. product_at m 4096 (factors (k + 1)) (lists k) i) (λ k. ring 4095 c (coefficient (factors (k + 1))) (coefficient (lists k)) i)
+    ∙ sum_below-mod m count (λ k. product_at m 4096 (factors (k + 1)) (lists k) i) (λ k. ring 4095 c (coefficient (factors (k + 1))) (coefficient (lists k)) i)
     (λ k lt. product-ring m c 4095 (factors (k + 1)) (lists k) positive e (lf k lt) (ll k lt) i le)
   where
     plus_none : (x : ℕ) → x + 0 ≡ x
@@ -72,7 +72,7 @@ phase_residue-ring : (m c : ℕ) (key : List ℤ) (c0 c1 : List ℕ) → 0 < m �
 unfolding phase_residue
 phase_residue-ring m c key c0 c1 positive e lk lc i le =
     mod-mod (coefficient c0 i + product_at m 4096 c1 (residues_of m key) i) m
-    ∙ mod-add m (coefficient c0 i) (coefficient c0 i) (product_at m 4096 c1 (residues_of m key) i) (ring 4095 c (coefficient c1) (coefficient (residues_of m key)) i)
+    ∙ sum_congruent m (coefficient c0 i) (coefficient c0 i) (product_at m 4096 c1 (residues_of m key) i) (ring 4095 c (coefficient c1) (coefficient (residues_of m key)) i)
     refl (product-ring m c 4095 c1 (residues_of m key) positive e lc (length-map key (residue_of m) ∙ lk) i le)
 
 -- The residues of an evaluation's phase, from those of its ciphertexts' phases x.

@@ -3,7 +3,7 @@ use Rattle.std.proofs.Common.{◌≡◌, ℕ, ◌+◌, ◌-◌, ◌*◌, ◌/◌
 use Rattle.std.proofs.lemmas.Nat.{mul-le, div-mul-add}
 use Rattle.std.proofs.Math.Nat.{add-mul-div_left, mod-eq_of_lt}
 use Rattle.bfv_core.specs.Encryptions.{IsNear}
-use Rattle.bfv_core.proofs.LedgerResidues.{mod-witness, mod-from_witness}
+use Rattle.psi_residue.proofs.Congruences.{mod-witness, mod-from_witness}
 
 -- The numerator 2·t·x + q is m whole times and less than once 2·q, but for multiples of t.
 numerator : (q t delta r x m more less u v : ℕ) → q ≡ delta * t + r → 2 * (t * less) + 2 * (r * m) ≤ q → x + less + q * u ≡ delta * m + more + q * v

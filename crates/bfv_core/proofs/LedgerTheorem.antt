@@ -9,17 +9,19 @@ use Rattle.psi_residue.specs.Polynomials.{IsPolynomial}
 use Rattle.psi_residue.specs.Ring.{conv, product_at}
 use Rattle.psi_residue.specs.Slots.{slot_of}
 use Rattle.psi_residue.proofs.Sums.{sum_below-same, sum_below-add, sum_below-times, sum_below-bound, length-table, slice_index-table, same_as_table}
+use Rattle.psi_residue.proofs.Congruences.{sum_congruent, minus_one-same, sum_below-mod}
+use Rattle.negacyclic.proofs.Ring.{ring, ring-times, ring-bound, spread-ring}
+use Rattle.negacyclic.proofs.Products.{conv-spread, past-end, product-ring, product_at-conv}
+use Rattle.negacyclic.proofs.RingValues.{value, value-evaluated}
 use Rattle.noise_ledger.specs.Ledgers.{greatest_error, greatest_coefficient, carry_of, noise_of, used_of, passes}
 use Rattle.bfv_core.specs.Encryptions.{IsNear, Carries, phase, opened, opening}
 use Rattle.psi_residue.specs.Evaluations.{evaluated}
 use Rattle.bfv_core.specs.Evaluations.{evaluated_plain, IsEvaluable, whole_more, whole_less, IsCarry, IsScaledCarry, IsSlotwise}
-use Rattle.bfv_core.proofs.LedgerSums.{mod-add, sum-mod}
-use Rattle.bfv_core.proofs.LedgerRing.{ring, ring-times, ring-bound, spread-ring}
-use Rattle.bfv_core.proofs.LedgerProducts.{conv-spread, past-end, product-ring, product-whole}
 use Rattle.bfv_core.proofs.LedgerErrors.{ErrorAt, errors_at, more_term, less_term, near-products, errors-bound}
 use Rattle.bfv_core.proofs.LedgerCarries.{CarryOf, carry-of, carry-bound, carry-scaled, near-carried}
 use Rattle.bfv_core.proofs.LedgerOpenings.{opened-near}
-use Rattle.bfv_core.proofs.LedgerSlots.{value, value-evaluated, odd-value, odd-root}
+use Rattle.negacyclic.proofs.RingLaws.{root_is, slot-value}
+use Rattle.psi_residue.proofs.Powers.{odd_root}
 use Rattle.bfv_core.proofs.LedgerEvaluations.{minus_one, minus_one-both, coefficient, evaluated-phase}
 
 -- the products of plaintexts over the whole numbers, by c
@@ -103,17 +105,17 @@ plain-whole count factors plaintexts i le =
     sums =
         ap (λ (u : ℕ). u % plain_modulus)
         (sym (sum_below-add count (λ k. product_at plain_modulus 4096 (factors (k + 1)) (plaintexts k) i) (λ k. conv (factors (k + 1)) (plaintexts k) (i + 4096))))
-        ∙ sum-mod plain_modulus count
+        ∙ sum_below-mod plain_modulus count
         (λ k. product_at plain_modulus 4096 (factors (k + 1)) (plaintexts k) i + conv (factors (k + 1)) (plaintexts k) (i + 4096))
         (λ k. conv (factors (k + 1)) (plaintexts k) i)
-        (λ k lt. product-whole plain_modulus 4096 (factors (k + 1)) (plaintexts k) i (omega arith))
+        (λ k lt. product_at-conv plain_modulus 4096 (factors (k + 1)) (plaintexts k) i (omega arith))
 
     regroup : (m high products low f : ℕ) → (products + high) % m ≡ low % m → (high + (products + f) % m) % m ≡ (low + f) % m
     regroup m high products low f e =
         let whole : high + (products + f) ≡ products + high + f = omega arith in
-        mod-add m high high ((products + f) % m) (products + f) refl (mod-mod (products + f) m)
+        sum_congruent m high high ((products + f) % m) (products + f) refl (mod-mod (products + f) m)
         ∙ ap (λ (u : ℕ). u % m) whole
-        ∙ mod-add m (products + high) low f f e refl
+        ∙ sum_congruent m (products + high) low f f e refl
 
 plain-below : (count : ℕ) (factors plaintexts : ℕ → List ℕ) (i : ℕ) → i ≤ 4095 → get_or (evaluated_plain count factors plaintexts) i 0 < plain_modulus
 plain-below count factors plaintexts i le =
@@ -228,9 +230,9 @@ phase-near p key ciphertexts plaintexts factors h errors i le =
     joined q z x y f w less more e near sum =
         let first : x + f + less ≡ x + less + f = omega arith in
         let second : y + more + f ≡ w + more = omega arith in
-        mod-add q z (x + f) less less e refl
+        sum_congruent q z (x + f) less less e refl
         ∙ ap (λ (u : ℕ). u % q) first
-        ∙ mod-add q (x + less) (y + more) f f near refl
+        ∙ sum_congruent q (x + less) (y + more) f f near refl
         ∙ ap (λ (u : ℕ). u % q) second
 
 -- the two parts of the noise are the ledger's
@@ -300,13 +302,9 @@ evaluation-opens p key ciphertexts plaintexts factors h =
     carried-opens p key (evaluated p.capacity factors ciphertexts) (evaluated_plain p.capacity factors plaintexts) h.passed.little_noise
     (evaluated_plain-polynomial p.capacity factors plaintexts) (evaluation-carries p key ciphertexts plaintexts factors h)
 
-root-power : root ^ 4096 % plain_modulus ≡ 65536 % plain_modulus
-unfolding root
-root-power = refl
-
-slot-value : (p : List ℕ) (j : ℕ) → slot_of p j ≡ value 4096 (root ^ (2 * j + 1)) (coefficient p) % plain_modulus
-unfolding slot_of
-slot-value p j = odd-value plain_modulus 4096 root (coefficient p) j
+-- each odd power of the root is a root of -1
+slot-root : (j : ℕ) → (root ^ (2 * j + 1)) ^ 4096 % plain_modulus ≡ 65536 % plain_modulus
+slot-root j = minus_one-same plain_modulus ((root ^ (2 * j + 1)) ^ 4096) 65536 (omega arith) (odd_root plain_modulus 4096 root j root_is) refl
 
 -- slot by slot the evaluation is the sum of products
 pub evaluation-slots : (count : ℕ) (factors plaintexts : ℕ → List ℕ)
@@ -315,7 +313,7 @@ pub evaluation-slots : (count : ℕ) (factors plaintexts : ℕ → List ℕ)
 evaluation-slots count factors plaintexts lf lp j =
     slot-value (evaluated_plain count factors plaintexts) j
     ∙ value-evaluated plain_modulus 4095 65536 (root ^ (2 * j + 1)) count (λ k. coefficient (factors (k + 1))) (λ k. coefficient (plaintexts k)) (coefficient (factors 0))
-    (coefficient (evaluated_plain count factors plaintexts)) (odd-root plain_modulus 4096 root 65536 j root-power refl)
+    (coefficient (evaluated_plain count factors plaintexts)) (slot-root j)
     (λ i lt. ap (λ (u : ℕ). u % plain_modulus) (plain-at count factors plaintexts i (omega arith)) ∙ reduced i (omega arith))
     ∙ ap (λ (u : ℕ). u % plain_modulus) (sym slots)
   where
@@ -324,9 +322,9 @@ evaluation-slots count factors plaintexts lf lp j =
         ≡ (sum_below count (λ k. ring 4095 65536 (coefficient (factors (k + 1))) (coefficient (plaintexts k)) i) + coefficient (factors 0) i) % plain_modulus
     reduced i le =
         mod-mod (sum_below count (λ k. product_at plain_modulus ring_degree (factors (k + 1)) (plaintexts k) i) + coefficient (factors 0) i) plain_modulus
-        ∙ mod-add plain_modulus (sum_below count (λ k. product_at plain_modulus ring_degree (factors (k + 1)) (plaintexts k) i))
+        ∙ sum_congruent plain_modulus (sum_below count (λ k. product_at plain_modulus ring_degree (factors (k + 1)) (plaintexts k) i))
         (sum_below count (λ k. ring 4095 65536 (coefficient (factors (k + 1))) (coefficient (plaintexts k)) i)) (coefficient (factors 0) i) (coefficient (factors 0) i)
-        (sum-mod plain_modulus count (λ k. product_at plain_modulus ring_degree (factors (k + 1)) (plaintexts k) i)
+        (sum_below-mod plain_modulus count (λ k. product_at plain_modulus ring_degree (factors (k + 1)) (plaintexts k) i)
         (λ k. ring 4095 65536 (coefficient (factors (k + 1))) (coefficient (plaintexts k)) i)
         (λ k lt. product-ring plain_modulus 65536 4095 (factors (k + 1)) (plaintexts k) (omega arith) refl (lf k lt) (lp k lt) i le))
         refl

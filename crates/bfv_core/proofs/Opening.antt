@@ -5,19 +5,20 @@ use Rattle.psi_residue.specs.Numbers.{first_modulus, second_modulus, plain_modul
 use Rattle.psi_residue.specs.Polynomials.{IsPolynomial}
 use Rattle.psi_residue.specs.Ring.{product_at, product}
 use Rattle.psi_residue.specs.Residues.{residues_of, composed}
-use Rattle.psi_residue.proofs.Sums.{slice_index-table, same_as_table}
+use Rattle.psi_residue.proofs.Sums.{slice_index-table, same_as_table, table-same}
+use Rattle.psi_residue.proofs.Filling.{IsFilled, IsFilled-none}
+use Rattle.negacyclic.proofs.Products.{slice_index-product}
+use Rattle.psi_residue.proofs.Polynomials.{IsPolynomial-table}
 use Rattle.psi_residue.specs.Ciphertexts.{list_at}
 use Rattle.bfv_core.specs.Encryptions.{phase_residue, phase, opened, opening}
 use Rattle.bfv_core.specs.EncryptedLists.{added}
-use Rattle.bfv_core.proofs.Filling.{IsFilled, IsFilled-none}
-use Rattle.bfv_core.proofs.Tables.{table-same, get_or-product, IsPolynomial-table}
 
 -- the coefficients of a product with the key
 pub product_from : (m : ℕ) (key coefficients : List ℤ) (a s out : List ℕ) → out ≡ product m 4096 a s → s ≡ residues_of m coefficients → coefficients ≡ key
     → (k : ℕ) → k < 4096 → get_or out k 0 ≡ product_at m 4096 a (residues_of m key) k
 product_from m key coefficients a s out e same_s same_key k lt =
     ap (λ (xs : List ℕ). get_or xs k 0) e
-    ∙ get_or-product m a s k lt
+    ∙ slice_index-product m 4096 a s k lt
     ∙ ap (λ (xs : List ℕ). product_at m 4096 a xs k) (same_s ∙ ap (residues_of m) same_key)
 
 -- a list that is to be filled begins as that product

@@ -2,9 +2,8 @@
 use Rattle.std.proofs.Common.{◌≡◌, ℕ, zero, suc, ◌+◌, ◌-◌, ◌*◌, ◌%◌, ◌<◌, ◌≤◌, ◌⊎◌, refl, ap, ◌∙◌, sym, inl, inr, arith}
 use Rattle.std.proofs.lemmas.Bool.{cases_lt}
 use Rattle.std.proofs.Math.Nat.{mod-eq_of_lt, mod-mod, add-mul-mod_self_left}
-use Rattle.psi_residue.proofs.Inverses.{cancel}
+use Rattle.psi_residue.proofs.Congruences.{cancel, sum_congruent, times_congruent, plus_congruent, reduced_inside}
 use Rattle.bin_poly.specs.Roots.{times_root_coefficient}
-use Rattle.bin_poly.proofs.Congruent.{sum_congruent, times_congruent, plus_congruent, reduced_inside}
 use Rattle.bin_poly.specs.Horner.{horner}
 use Rattle.bin_poly.proofs.Horner.{nested-none, nested-more, nested-longer, horner-shifted}
 

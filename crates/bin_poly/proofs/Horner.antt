@@ -6,8 +6,8 @@ use Rattle.std.proofs.Math.Nat.{pow-zero, pow-succ', zero-mod}
 use Rattle.psi_residue.specs.Sums.{sum_below}
 use Rattle.psi_residue.specs.Polynomials.{value_at}
 use Rattle.psi_residue.proofs.Sums.{sum_below-zero, sum_below-more}
+use Rattle.psi_residue.proofs.Congruences.{sum_congruent, times_congruent, plus_congruent}
 use Rattle.bin_poly.specs.Horner.{nested, horner}
-use Rattle.bin_poly.proofs.Congruent.{sum_congruent, times_congruent, plus_congruent}
 
 pub nested-none : (f g : ℕ → ℕ) (k : ℕ) → nested f g 0 k ≡ 0
 unfolding nested

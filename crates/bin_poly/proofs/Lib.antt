@@ -1,6 +1,4 @@
-pub mod Congruent
 pub mod Units
 pub mod Horner
 pub mod Factors
 pub mod Products
-pub mod Places

@@ -11,7 +11,7 @@ use Rattle.psi_residue.specs.Polynomials.{value_at}
 use Rattle.psi_residue.specs.RootPolynomials.{root_coefficient, root_value}
 use Rattle.bin_poly.specs.Roots.{times_root_coefficient, HasRoots, without}
 use Rattle.bin_poly.specs.Calls.{Call, times, divide, AllMake, roots_after, RootsStand}
-use Rattle.bin_poly.proofs.Congruent.{product_congruent, times_congruent}
+use Rattle.psi_residue.proofs.Congruences.{product_congruent, times_congruent}
 use Rattle.bin_poly.proofs.Units.{no_zero_divisor, difference-positive}
 use Rattle.bin_poly.specs.Horner.{horner}
 use Rattle.bin_poly.proofs.Horner.{nested-past, nested-more, horner-any_length, value_at-horner, past_end}

@@ -8,7 +8,7 @@ use Rattle.std.proofs.Math.Nat.{div-add-mod, mod-eq_of_lt, add-mul-mod_self_left
 use Rattle.psi_residue.specs.Numbers.{plain_modulus}
 use Rattle.psi_residue.specs.Interpolation.{inverse_of}
 use Rattle.psi_residue.proofs.Inverses.{one_from_divisor}
-use Rattle.bin_poly.proofs.Congruent.{times_congruent}
+use Rattle.psi_residue.proofs.Congruences.{times_congruent}
 
 -- the power that Fermat's theorem says is 1
 unfoldable raised : ℕ → ℕ

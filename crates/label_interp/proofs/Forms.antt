@@ -8,7 +8,7 @@ use Rattle.std.proofs.Math.ListN.{get_or-map}
 use Rattle.std.proofs.lemmas.Map.Keys.{apart_from_distinct}
 use Rattle.std.proofs.Math.Nat.{mod-eq_of_lt, mod_self, add-mul-mod_self_left, mod-mod}
 use Rattle.bin_poly.specs.Horner.{nested, horner}
-use Rattle.bin_poly.proofs.Congruent.{sum_congruent, product_congruent, times_congruent, plus_congruent}
+use Rattle.psi_residue.proofs.Congruences.{sum_congruent, product_congruent, times_congruent, plus_congruent}
 use Rattle.bin_poly.proofs.Units.{nonzero_product, difference-positive}
 use Rattle.bin_poly.proofs.Horner.{nested-none, nested-more, nested-congruent}
 use Rattle.label_interp.specs.Points.{place_at, value_of, newton_value, product_from, newton_product}

@@ -9,15 +9,12 @@ use Rattle.std.proofs.Math.Nat.{mod-eq_of_lt, mod-mod}
 use Rattle.psi_residue.specs.RootPolynomials.{root_coefficient, root_value}
 use Rattle.psi_residue.specs.Interpolation.{inverse_of, others, lagrange_coefficient, interpolated}
 use Rattle.bin_poly.specs.Horner.{horner}
-use Rattle.bin_poly.proofs.Congruent.{sum_congruent, times_congruent}
+use Rattle.psi_residue.proofs.Congruences.{sum_congruent, times_congruent}
 use Rattle.bin_poly.proofs.Units.{inverse_of-inverts, nonzero_product, difference-positive}
 use Rattle.bin_poly.proofs.Horner.{nested-past, nested-add, nested-times, nested-congruent}
 use Rattle.bin_poly.proofs.Products.{own-factor, root_value-at_root, root_value-below, coefficient-past, horner-product}
 use Rattle.label_interp.specs.Points.{place_at, value_of}
 use Rattle.label_interp.proofs.Forms.{place-mapped}
-
-others-first : (a : ℕ) (xs : List ℕ) → others (a ∷ xs) 0 ≡ xs
-others-first a xs = refl
 
 others-next : (a : ℕ) (xs : List ℕ) (i : ℕ) → others (a ∷ xs) (suc i) ≡ a ∷ others xs i
 others-next a xs i = let shape : suc i + 1 ≡ suc (i + 1) = omega arith in ap (λ (j : ℕ). (a ∷ take i xs) ++ drop j (a ∷ xs)) shape

@@ -3,7 +3,7 @@ use Rattle.std.proofs.Common.{◌≡◌, ℕ, zero, suc, ◌+◌, ◌-◌, ◌*�
 use Rattle.std.specs.List.{AllByRecursion, IsDistinct}
 use Rattle.std.proofs.lemmas.Bool.{eqb-false}
 use Rattle.std.proofs.Math.Nat.{mod-eq_of_lt}
-use Rattle.psi_residue.proofs.Inverses.{cancel}
+use Rattle.psi_residue.proofs.Congruences.{cancel}
 use Rattle.bin_poly.specs.Horner.{horner}
 use Rattle.bin_poly.specs.Roots.{times_root_coefficient}
 use Rattle.bin_poly.proofs.Units.{no_zero_divisor, difference-positive, same_from_difference}

@@ -1,16 +1,15 @@
 -- The sums that make up a coefficient of a product, as far as a loop has come.
-use Rattle.std.proofs.Common.{◌≡◌, ℕ, zero, suc, ◌+◌, ◌-◌, ◌*◌, ◌%◌, ◌<◌, ◌≤◌, List, length, get_or, set, refl, ap, ◌∙◌, sym, inl, inr, arith}
-use Rattle.std.proofs.lemmas.Bool.{cases_lt}
-use Rattle.std.proofs.lemmas.Grind.{get_or-set_at}
-use Rattle.std.proofs.lemmas.List.{get_or_past, get_or-set_other}
+use Rattle.std.proofs.Common.{◌≡◌, ℕ, zero, suc, ◌+◌, ◌-◌, ◌*◌, ◌%◌, ◌<◌, ◌≤◌, List, length, get_or, set, refl, ap, ◌∙◌, sym, arith}
+use Rattle.std.proofs.lemmas.List.{get_or_past}
 use Rattle.std.proofs.lemmas.Nat.{mul-le}
 use Rattle.std.proofs.Math.Nat.{mod-lt}
 use Rattle.psi_residue.specs.declared.numbers.Modulus.{Modulus}
-use Rattle.psi_residue.specs.declared.numbers.Modulus.TheVariants as moduli
 use Rattle.psi_residue.specs.Numbers.{modulus_of}
 use Rattle.psi_residue.specs.Polynomials.{IsPolynomial}
 use Rattle.psi_residue.specs.Ring.{conv, product_at, product}
 use Rattle.psi_residue.specs.Sums.{sum_below}
+use Rattle.psi_residue.proofs.Moduli.{modulus-bound}
+use Rattle.psi_residue.proofs.Filling.{up_done}
 use Rattle.psi_residue.proofs.Sums.{sum_below-more, same_as_table}
 
 -- the first n terms of the sum of a_i * b_j over i + j = s
@@ -53,16 +52,6 @@ high_conv a b k size lt =
     let e : 4096 + (k + 1) ≡ k + 4096 + 1 = omega arith in
     sym (first_terms-rest a b (k + 4096) 4096 (k + 1) (omega arith)) ∙ ap (λ (n : ℕ). first_terms a b (k + 4096) n) e ∙ conv-first_terms a b (k + 4096)
 
-pub modulus-bound : (m : Modulus) → modulus_of m ≤ 68719476736
-modulus-bound moduli.Q1 = omega arith
-modulus-bound moduli.Q2 = omega arith
-modulus-bound moduli.T = omega arith
-
-pub modulus-positive : (m : Modulus) → 0 < modulus_of m
-modulus-positive moduli.Q1 = omega arith
-modulus-positive moduli.Q2 = omega arith
-modulus-positive moduli.T = omega arith
-
 -- one term's bound, 2^72
 pub term-bound : (m : Modulus) (a b : List ℕ) (i j : ℕ) → IsPolynomial (modulus_of m) a → IsPolynomial (modulus_of m) b → i < 4096 → j < 4096 → get_or a i 0 * get_or b j 0 ≤ 4722366482869645213696
 term-bound m a b i j first second i_lt j_lt =
@@ -81,13 +70,8 @@ StartsProduct-none m a b out = λ j lt. absurd (omega arith)
 
 pub StartsProduct-more : (m : ℕ) (a b out : List ℕ) (k low high y : ℕ) → StartsProduct m a b out k → k < length out → low ≡ conv a b k → high ≡ conv a b (k + 4096) → y ≡ (low + (m - high % m)) % m → StartsProduct m a b (set out k y) (k + 1)
 unfolding StartsProduct product_at
-StartsProduct-more m a b out k low high y before lt low-is high-is y-is = λ j below.
-    elim (cases_lt j k) [
-      | inl earlier ↦ get_or-set_other out k j y 0 (λ e. omega arith) ∙ before j earlier
-      | inr later ↦
-          let here : j ≡ k = omega arith in
-          get_or-set_at out k j y 0 here lt ∙ y-is ∙ rw (low-is, high-is, here) refl
-    ]
+StartsProduct-more m a b out k low high y before lt low-is high-is y-is =
+    up_done (product_at m 4096 a b) out k y lt (y-is ∙ rw (low-is, high-is) refl) before
 
 pub StartsProduct-all : (m : ℕ) (a b out : List ℕ) (k : ℕ) → k ≡ 4096 → length out ≡ 4096 → StartsProduct m a b out k → out ≡ product m 4096 a b
 unfolding StartsProduct product

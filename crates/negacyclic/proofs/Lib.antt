@@ -1,4 +1,5 @@
 pub mod Convolutions
-pub mod DoubleSums
+pub mod Ring
+pub mod Products
+pub mod RingValues
 pub mod RingLaws
-pub mod Values

@@ -1,5 +1,6 @@
 -- Numbers by their residues modulo the two moduli, which have no divisor in common.
-use Rattle.std.proofs.Common.{◌≡◌, ℕ, ◌+◌, ◌-◌, ◌*◌, ◌%◌, ◌<◌, arith}
+use Rattle.std.proofs.Common.{◌≡◌, ℕ, ◌+◌, ◌-◌, ◌*◌, ◌%◌, ◌<◌, ◌∙◌, arith}
+use Rattle.std.proofs.Math.Nat.{mod-mod}
 use Rattle.psi_residue.specs.Numbers.{first_modulus, second_modulus, cipher_modulus}
 use Rattle.psi_residue.specs.Residues.{composed, first_inverse}
 
@@ -7,28 +8,30 @@ use Rattle.psi_residue.specs.Residues.{composed, first_inverse}
 pub same_residues : (x y : ℕ) → x % first_modulus ≡ y % first_modulus → x % second_modulus ≡ y % second_modulus → x % cipher_modulus ≡ y % cipher_modulus
 same_residues x y first second = omega (arith, first, second)
 
--- the composed number has these residues, and is below the ciphertext modulus
-pub composed-first : (a b : ℕ) → a < first_modulus → composed a b % first_modulus ≡ a
+-- the composed number has these residues, and is below the ciphertext modulus where the first one is reduced
+pub composed-first : (a b : ℕ) → composed a b % first_modulus ≡ a % first_modulus
 unfolding composed
-composed-first a b below = omega (arith, below)
+composed-first a b = omega arith
 
-pub composed-second : (a b : ℕ) → b < second_modulus → composed a b % second_modulus ≡ b
+pub composed-second : (a b : ℕ) → composed a b % second_modulus ≡ b % second_modulus
 unfolding composed first_inverse
-composed-second a b below = omega (arith, below)
+composed-second a b = omega arith
 
 pub composed-below : (a b : ℕ) → a < first_modulus → composed a b < cipher_modulus
 unfolding composed
 composed-below a b below = omega (arith, below)
 
--- and it is the only one
+-- a number with the residues a and b of a composed one is that, modulo the ciphertext modulus
+pub composed-is : (a b x : ℕ) → a % first_modulus ≡ x % first_modulus → b % second_modulus ≡ x % second_modulus
+    → composed a b % cipher_modulus ≡ x % cipher_modulus
+composed-is a b x e f = same_residues (composed a b) x (composed-first a b ∙ e) (composed-second a b ∙ f)
+
+-- and below that it is the only one
 pub composed-only : (x : ℕ) → x < cipher_modulus → composed (x % first_modulus) (x % second_modulus) ≡ x
 composed-only x below =
-    let a : x % first_modulus < first_modulus = omega arith in
-    let b : x % second_modulus < second_modulus = omega arith in
-    let first = composed-first (x % first_modulus) (x % second_modulus) a in
-    let second = composed-second (x % first_modulus) (x % second_modulus) b in
-    let small = composed-below (x % first_modulus) (x % second_modulus) a in
-    let same = same_residues (composed (x % first_modulus) (x % second_modulus)) x first second in
+    let reduced : x % first_modulus < first_modulus = omega arith in
+    let small = composed-below (x % first_modulus) (x % second_modulus) reduced in
+    let same = composed-is (x % first_modulus) (x % second_modulus) x (mod-mod x first_modulus) (mod-mod x second_modulus) in
     omega (arith, same, small, below)
 
 -- the steps of Garner's formula

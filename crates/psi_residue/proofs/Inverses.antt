@@ -4,7 +4,8 @@ use Rattle.std.specs.Int.{◌∣◌}
 use Rattle.std.proofs.lemmas.Bool.{cases_lt, and_parts, false≢true}
 use Rattle.std.proofs.lemmas.Nat.{mul-mod_first, mul-mod_second, mul-le}
 use Rattle.std.proofs.lemmas.Nat.Gcd.{mod-eq-zero_of_dvd}
-use Rattle.std.proofs.Math.Nat.{add-mod-mod, mod-add-mod, div-add-mod, mul-mod_left, add-mul-mod_self_left, add-mul-mod_self_right, mod-add-div', mul_comm}
+use Rattle.std.proofs.Math.Nat.{add-mod-mod, div-add-mod, mul-mod_left, add-mul-mod_self_right, mod-add-div', mul_comm}
+use Rattle.psi_residue.proofs.Congruences.{cancel}
 
 -- none of the numbers from 2 to k + 1 divides n
 has_no_divisor : ℕ → ℕ → Bool
@@ -55,15 +56,6 @@ one_from_divisor g h lt =
     by_cases (suc (suc g)) zero e lt = absurd (omega arith)
     by_cases (suc (suc g)) (suc zero) e lt = absurd (omega arith)
     by_cases (suc (suc g)) (suc (suc c)) e lt = absurd (no_factor (suc (suc g)) (suc (suc c)) e (omega arith) (omega arith))
-
--- equal sums with one term in common have equal other terms, modulo m
-pub cancel : (k x y c : ℕ) → (x + c) % suc k ≡ (y + c) % suc k → x % suc k ≡ y % suc k
-cancel k x y c e = sym (padded x) ∙ ap (λ (u : ℕ). (u + k * c) % suc k) e ∙ padded y
-  where
-    padded : (z : ℕ) → ((z + c) % suc k + k * c) % suc k ≡ z % suc k
-    padded z =
-        let whole : z + c + k * c ≡ z + suc k * c = omega arith in
-        mod-add-mod (z + c) (suc k) (k * c) ∙ ap (λ (u : ℕ). u % suc k) whole ∙ add-mul-mod_self_left z (suc k) c
 
 -- the multiple of a that the next remainder is
 pub next_multiple : (k a high low of_high of_low taken next : ℕ)

@@ -1,5 +1,8 @@
 pub mod Sums
-pub mod Polynomials
+pub mod Congruences
 pub mod Powers
+pub mod Polynomials
 pub mod Inverses
 pub mod Composition
+pub mod Filling
+pub mod Moduli

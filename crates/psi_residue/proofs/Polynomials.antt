@@ -1,17 +1,15 @@
 -- Lists that are polynomials.
-use Rattle.std.proofs.Common.{ℕ, ◌<◌, List, get_or, set, ◌∙◌, inl, inr, arith, replicate}
-use Rattle.std.proofs.lemmas.Bool.{cases_eq, cases_lt}
-use Rattle.std.proofs.lemmas.List.{get_or_past, get_or-set_other, get_or-replicate, length-replicate, length-set}
+use Rattle.std.proofs.Common.{ℕ, ◌<◌, List, set, ◌∙◌, inl, inr, arith, replicate}
+use Rattle.std.proofs.lemmas.Bool.{cases_eq}
+use Rattle.std.proofs.lemmas.List.{get_or-set_other, get_or-replicate, length-replicate, length-set}
 use Rattle.std.proofs.lemmas.Grind.{get_or-set_at}
+use Rattle.psi_residue.specs.Sums.{table}
 use Rattle.psi_residue.specs.Polynomials.{IsPolynomial}
+use Rattle.psi_residue.proofs.Sums.{length-table, slice_index-table}
 
--- a coefficient past the end is 0
-pub IsPolynomial-any : (m : ℕ) (xs : List ℕ) (i : ℕ) → 0 < m → IsPolynomial m xs → get_or xs i 0 < m
-IsPolynomial-any m xs i positive h =
-    elim (cases_lt i 4096) [
-      | inl lt ↦ h.below i lt
-      | inr le ↦ rw (get_or_past xs i 0 (omega (arith, h.size))) positive
-    ]
+-- a table of numbers below m is a polynomial
+pub IsPolynomial-table : (m : ℕ) (f : ℕ → ℕ) → ((k : ℕ) → k < 4096 → f k < m) → IsPolynomial m (table 4096 f)
+IsPolynomial-table m f h = record { size = length-table 4096 f; below = λ i lt. rw (slice_index-table 4096 f i lt) (h i lt) }
 
 -- all coefficients are one number
 pub IsPolynomial-constant : (m value : ℕ) → value < m → IsPolynomial m (replicate 4096 value)

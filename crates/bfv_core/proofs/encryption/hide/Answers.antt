@@ -4,9 +4,10 @@ use Rattle.psi_residue.specs.Numbers.{modulus_of, scale}
 use Rattle.psi_residue.specs.Ring.{product_at}
 use Rattle.psi_residue.specs.Residues.{residue_of, residues_of}
 use Rattle.psi_residue.proofs.Sums.{same_as_table}
+use Rattle.psi_residue.proofs.Filling.{IsFilled-more}
+use Rattle.negacyclic.proofs.Products.{product_at-below}
 use Rattle.bfv_core.specs.EncryptedLists.{hidden}
-use Rattle.bfv_core.proofs.Filling.{IsFilled-more}
-use Rattle.bfv_core.proofs.Tables.{is_modulus, product_at-below}
+use Rattle.psi_residue.proofs.Moduli.{modulus-positive}
 use Rattle.bfv_core.proofs.Opening.{product-none}
 use Rattle.bfv_core.proofs.encryption.hide.Goals as goal
 
@@ -19,7 +20,7 @@ pub hidden_coefficient-requires-clause-reduced : goal.hidden_coefficient-require
 hidden_coefficient-requires-clause-reduced c =
     let within : c.loop-i.i < length c.loop-i.out = omega arith in
     let old : get_or c.loop-i.out c.loop-i.i 0 ≡ product_at (modulus_of c.args.m) 4096 c.args.mask.now (residues_of (modulus_of c.args.m) c.args.key.now) c.loop-i.i = c.loop-i.invariant.rest c.loop-i.i (omega arith) within in
-    let positive : 0 < modulus_of c.args.m = omega (arith, (is_modulus c.args.m).low) in
+    let positive : 0 < modulus_of c.args.m = modulus-positive c.args.m in
     subst (λ (x : ℕ). x < modulus_of c.args.m) (sym old) (product_at-below (modulus_of c.args.m) 4096 c.args.mask.now (residues_of (modulus_of c.args.m) c.args.key.now) c.loop-i.i positive)
 
 pub loop-i-preserved : goal.loop-i-preserved

@@ -2,7 +2,7 @@ use Rattle.std.proofs.Common.{◌+◌, ◌-◌, ◌*◌, ◌%◌, get_or, pos}
 use Rattle.psi_residue.specs.Numbers.{modulus_of, scale}
 use Rattle.psi_residue.specs.Ring.{product_at}
 use Rattle.psi_residue.specs.Residues.{residue_of, residues_of}
-use Rattle.bfv_core.proofs.Filling.{IsFilled}
+use Rattle.psi_residue.proofs.Filling.{IsFilled}
 use Rattle.bfv_core.proofs.encryption.hide.Given as goal
 
 abbrev pub invariant-loop-i : goal.invariant-loop-i

@@ -1,6 +1,6 @@
 use Rattle.std.proofs.Common.{◌+◌, ◌%◌, get_or}
 use Rattle.psi_residue.specs.Numbers.{modulus_of}
-use Rattle.bfv_core.proofs.Filling.{IsFilled}
+use Rattle.psi_residue.proofs.Filling.{IsFilled}
 use Rattle.bfv_core.proofs.polynomials.add_to.Given as goal
 
 abbrev pub invariant-loop-i : goal.invariant-loop-i

@@ -2,7 +2,7 @@ use Rattle.std.proofs.Common.{◌≡◌, ◌+◌, ◌-◌, ◌*◌, ◌%◌, ◌
 use Rattle.bin_poly.specs.Horner.{horner}
 use Rattle.bin_poly.proofs.Horner.{horner-start, horner-step}
 use Rattle.bin_poly.proofs.Factors.{quotient, quotient-is, quotient-past, quotient-below}
-use Rattle.bin_poly.proofs.Places.{down_done, down_left}
+use Rattle.psi_residue.proofs.Filling.{down_done, down_left}
 use Rattle.bin_poly.proofs.Products.{division-whole, lists-decided, root-divided, all_below}
 use Rattle.bin_poly.proofs.roots.divide_root.Goals as goal
 

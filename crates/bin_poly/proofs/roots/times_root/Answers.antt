@@ -1,7 +1,7 @@
 use Rattle.std.proofs.Common.{◌≡◌, ◌+◌, ◌-◌, ◌<◌, ℕ, List, length, slice_index, subst, ap, sym, ◌∙◌, arith}
 use Rattle.bin_poly.specs.Roots.{times_root_coefficient}
 use Rattle.bin_poly.proofs.Factors.{product-written, product-whole, product-below}
-use Rattle.bin_poly.proofs.Places.{up_done, up_left}
+use Rattle.psi_residue.proofs.Filling.{up_done, up_left}
 use Rattle.bin_poly.proofs.Products.{root-multiplied, all_below}
 use Rattle.bin_poly.proofs.roots.times_root.Goals as goal
 

@@ -2,7 +2,7 @@ use Rattle.std.proofs.Common.{refl, ◌∙◌, inl, inr, arith}
 use Rattle.std.proofs.lemmas.Bool.{cases_lt}
 use Rattle.std.proofs.lemmas.List.{get_or-set_other}
 use Rattle.bin_poly.proofs.Horner.{past_end}
-use Rattle.bin_poly.proofs.Places.{up_done_from}
+use Rattle.psi_residue.proofs.Filling.{up_done_from}
 use Rattle.label_interp.proofs.newton.clear.Goals as goal
 
 pub loop-k-preserved : goal.loop-k-preserved

@@ -1,6 +1,6 @@
 use Rattle.std.proofs.Common.{◌+◌, ◌-◌, ◌*◌, ◌%◌, ℕ, slice_index, ap, ◌∙◌, arith}
 use Rattle.std.proofs.lemmas.List.{get_or-set_other}
-use Rattle.bin_poly.proofs.Places.{up_done_from, up_left}
+use Rattle.psi_residue.proofs.Filling.{up_done_from, up_left}
 use Rattle.label_interp.proofs.newton.open_bracket.Goals as goal
 
 pub loop-k-preserved : goal.loop-k-preserved

@@ -1,4 +1,4 @@
-use Rattle.negacyclic.proofs.Values.{product-value, product-slot}
+use Rattle.negacyclic.proofs.RingLaws.{product-value, product-slot}
 use Rattle.negacyclic.proofs.laws.values_multiply.Goals as goal
 
 pub returns-clause-values : goal.returns-clause-values

@@ -1,6 +1,7 @@
 use Rattle.std.proofs.Common.{arith}
 use Rattle.psi_residue.specs.Numbers.{modulus_of}
-use Rattle.negacyclic.proofs.Convolutions.{StartsProduct-none, StartsProduct-more, StartsProduct-all, StartsProduct-reduced, modulus-positive}
+use Rattle.psi_residue.proofs.Moduli.{modulus-positive}
+use Rattle.negacyclic.proofs.Convolutions.{StartsProduct-none, StartsProduct-more, StartsProduct-all, StartsProduct-reduced}
 use Rattle.negacyclic.proofs.product.product_plain.Goals as goal
 
 pub loop-k-init : goal.loop-k-init

@@ -2,7 +2,7 @@ use Rattle.std.proofs.Common.{◌<◌, ◌+◌, ◌*◌, ◌%◌, ℕ, sym, subs
 use Rattle.std.proofs.Math.Nat.{mod-lt}
 use Rattle.psi_residue.specs.Numbers.{modulus_of}
 use Rattle.psi_residue.proofs.Polynomials.{IsPolynomial-constant, IsPolynomial-set}
-use Rattle.negacyclic.proofs.Convolutions.{modulus-positive}
+use Rattle.psi_residue.proofs.Moduli.{modulus-positive}
 use Rattle.negacyclic.proofs.tests.line.Goals as goal
 
 pub loop-i-init : goal.loop-i-init

@@ -1,6 +1,6 @@
 use Rattle.psi_residue.specs.Numbers.{modulus_of}
 use Rattle.psi_residue.proofs.Polynomials.{IsPolynomial-constant, IsPolynomial-set}
-use Rattle.negacyclic.proofs.Convolutions.{modulus-positive}
+use Rattle.psi_residue.proofs.Moduli.{modulus-positive}
 use Rattle.negacyclic.proofs.tests.monomial.Goals as goal
 
 pub returns : goal.returns

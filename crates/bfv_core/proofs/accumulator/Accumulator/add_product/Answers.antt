@@ -1,7 +1,7 @@
 use Rattle.std.proofs.Common.{arith, []}
 use Rattle.psi_residue.specs.Ciphertexts.{list_at}
 use Rattle.bfv_core.specs.EncryptedLists.{with_product, list_with_product}
-use Rattle.bfv_core.proofs.Filling.{IsFilled-all}
+use Rattle.psi_residue.proofs.Filling.{IsFilled-all}
 use Rattle.bfv_core.proofs.FourLists.{product-more}
 use Rattle.bfv_core.proofs.accumulator.Accumulator.add_product.Goals as goal
 

@@ -1,7 +1,7 @@
 use Rattle.std.proofs.Common.{[]}
 use Rattle.psi_residue.specs.Ciphertexts.{IsCiphertext, list_at}
 use Rattle.bfv_core.specs.EncryptedLists.{list_with_product}
-use Rattle.bfv_core.proofs.Filling.{IsFilled}
+use Rattle.psi_residue.proofs.Filling.{IsFilled}
 use Rattle.bfv_core.proofs.accumulator.Accumulator.add_product.Given as goal
 
 abbrev pub invariant-loop-list : goal.invariant-loop-list

@@ -2,7 +2,7 @@ use Rattle.std.proofs.Common.{arith, ◌∙◌, replicate, []}
 use Rattle.psi_residue.proofs.Polynomials.{IsPolynomial-constant}
 use Rattle.psi_residue.specs.Ciphertexts.{list_at, list_modulus}
 use Rattle.bfv_core.specs.EncryptedLists.{zero_lists}
-use Rattle.bfv_core.proofs.Filling.{IsFilled-all}
+use Rattle.psi_residue.proofs.Filling.{IsFilled-all}
 use Rattle.bfv_core.proofs.FourLists.{four_same, list_modulus-positive}
 use Rattle.bfv_core.proofs.accumulator.Accumulator.clear.Goals as goal
 

@@ -1,6 +1,6 @@
 use Rattle.std.proofs.Common.{replicate, []}
 use Rattle.psi_residue.specs.Ciphertexts.{IsCiphertext, list_at}
-use Rattle.bfv_core.proofs.Filling.{IsFilled}
+use Rattle.psi_residue.proofs.Filling.{IsFilled}
 use Rattle.bfv_core.proofs.accumulator.Accumulator.clear.Given as goal
 
 abbrev pub invariant-loop-list : goal.invariant-loop-list

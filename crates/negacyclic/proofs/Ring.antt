@@ -3,8 +3,8 @@
 use Rattle.std.proofs.Common.{◌≡◌, ℕ, zero, suc, ◌+◌, ◌-◌, ◌*◌, ◌%◌, ◌<◌, ◌≤◌, refl, ap, ◌∙◌, sym, arith}
 use Rattle.std.proofs.lemmas.Nat.{mul-le}
 use Rattle.psi_residue.specs.Sums.{sum_below}
-use Rattle.psi_residue.proofs.Sums.{sum_below-same, sum_below-add, sum_below-times, sum_below-bound}
-use Rattle.bfv_core.proofs.LedgerSums.{sum-first, sum-last, sum-swap, sum-times_behind, sum-zero, sum-split, sum-mod, mod-product}
+use Rattle.psi_residue.proofs.Sums.{sum_below-suc, sum_below-first, sum_below-same, sum_below-nothing, sum_below-bound, sum_below-times, sum_below-times_right, sum_below-add, sum_below-split, sum_below-swap, sum_below-backwards}
+use Rattle.psi_residue.proofs.Congruences.{product_congruent, times_congruent_right, sum_below-mod}
 
 -- the polynomial x·f
 unfoldable pub rotated : (top c : ℕ) → (ℕ → ℕ) → ℕ → ℕ
@@ -24,11 +24,6 @@ rotated-same : (top c : ℕ) (f g : ℕ → ℕ) → ((k : ℕ) → k ≤ top �
 unfolding rotated
 rotated-same top c f g h zero le = ap (λ (u : ℕ). c * u) (h top (omega arith))
 rotated-same top c f g h (suc k) le = h k (omega arith)
-
-turned-same : (top c i : ℕ) (f g : ℕ → ℕ) → ((k : ℕ) → k ≤ top → f k ≡ g k) → (k : ℕ) → k ≤ top → turned top c i f k ≡ turned top c i g k
-unfolding turned
-turned-same top c zero f g h k le = h k le
-turned-same top c (suc i) f g h k le = rotated-same top c (turned top c i f) (turned top c i g) (turned-same top c i f g h) k le
 
 -- x^i·f is linear in f
 turned-plus : (top c i : ℕ) (f g : ℕ → ℕ) (k : ℕ) → turned top c i (λ l. f l + g l) k ≡ turned top c i f k + turned top c i g k
@@ -70,9 +65,9 @@ turned-high top c (suc i) f (suc k) lt le within =
 ring-rotated_first : (top c : ℕ) (p f : ℕ → ℕ) (k : ℕ) → k ≤ top → ring top c (rotated top c p) f k ≡ sum_below (suc top) (λ i. p i * turned top c (suc i) f k)
 unfolding ring rotated turned
 ring-rotated_first top c p f k le =
-    sum-first top (λ i. rotated top c p i * turned top c i f k)
+    sum_below-first top (λ i. rotated top c p i * turned top c i f k)
     ∙ front
-    ∙ sym (sum-last top (λ i. p i * turned top c (suc i) f k))
+    ∙ sym (sum_below-suc top (λ i. p i * turned top c (suc i) f k))
   where
     comes_round : turned top c (suc top) f k ≡ c * f k
     comes_round =
@@ -108,8 +103,8 @@ pub ring-assoc : (top c : ℕ) (p f g : ℕ → ℕ) (k : ℕ) → k ≤ top →
 unfolding ring
 ring-assoc top c p f g k le =
     sum_below-same (suc top) (λ j. ring top c p f j * turned top c j g k) (λ j. sum_below (suc top) (λ i. p i * turned top c i f j * turned top c j g k))
-    (λ j lt. sym (sum-times_behind (suc top) (turned top c j g k) (λ i. p i * turned top c i f j)))
-    ∙ sum-swap (suc top) (suc top) (λ j i. p i * turned top c i f j * turned top c j g k)
+    (λ j lt. sym (sum_below-times_right (suc top) (turned top c j g k) (λ i. p i * turned top c i f j)))
+    ∙ sum_below-swap (suc top) (suc top) (λ j i. p i * turned top c i f j * turned top c j g k)
     ∙ sum_below-same (suc top) (λ i. sum_below (suc top) (λ j. p i * turned top c i f j * turned top c j g k)) (λ i. p i * turned top c i (ring top c f g) k)
     (λ i lt. inner i)
   where
@@ -126,8 +121,8 @@ pub ring-sum : (top c d : ℕ) (p : ℕ → ℕ → ℕ) (f : ℕ → ℕ) (k : 
 unfolding ring
 ring-sum top c d p f k =
     sum_below-same (suc top) (λ i. sum_below d (λ j. p j i) * turned top c i f k) (λ i. sum_below d (λ j. p j i * turned top c i f k))
-    (λ i lt. sym (sum-times_behind d (turned top c i f k) (λ j. p j i)))
-    ∙ sum-swap (suc top) d (λ i j. p j i * turned top c i f k)
+    (λ i lt. sym (sum_below-times_right d (turned top c i f k) (λ j. p j i)))
+    ∙ sum_below-swap (suc top) d (λ i j. p j i * turned top c i f k)
 
 -- the product is linear in its second factor
 pub ring-plus : (top c : ℕ) (p f g : ℕ → ℕ) (k : ℕ) → ring top c p (λ l. f l + g l) k ≡ ring top c p f k + ring top c p g k
@@ -159,15 +154,15 @@ turned-mod : (m top c d i : ℕ) (f g : ℕ → ℕ) → c % m ≡ d % m → ((k
     → (k : ℕ) → k ≤ top → turned top c i f k % m ≡ turned top d i g k % m
 unfolding turned rotated
 turned-mod m top c d zero f g e h k le = h k le
-turned-mod m top c d (suc i) f g e h zero le = mod-product m c d (turned top c i f top) (turned top d i g top) e (turned-mod m top c d i f g e h top (omega arith))
+turned-mod m top c d (suc i) f g e h zero le = product_congruent m c d (turned top c i f top) (turned top d i g top) e (turned-mod m top c d i f g e h top (omega arith))
 turned-mod m top c d (suc i) f g e h (suc k) le = turned-mod m top c d i f g e h k (omega arith)
 
 pub ring-mod : (m top c d : ℕ) (p q f g : ℕ → ℕ) → c % m ≡ d % m → ((k : ℕ) → k ≤ top → p k % m ≡ q k % m) → ((k : ℕ) → k ≤ top → f k % m ≡ g k % m)
     → (k : ℕ) → k ≤ top → ring top c p f k % m ≡ ring top d q g k % m
 unfolding ring
 ring-mod m top c d p q f g e hp hf k le =
-    sum-mod m (suc top) (λ i. p i * turned top c i f k) (λ i. q i * turned top d i g k)
-    (λ i lt. mod-product m (p i) (q i) (turned top c i f k) (turned top d i g k) (hp i (omega arith)) (turned-mod m top c d i f g e hf k le))
+    sum_below-mod m (suc top) (λ i. p i * turned top c i f k) (λ i. q i * turned top d i g k)
+    (λ i lt. product_congruent m (p i) (q i) (turned top c i f k) (turned top d i g k) (hp i (omega arith)) (turned-mod m top c d i f g e hf k le))
 
 -- where nothing changes its sign, coefficients are bounded
 turned-bound : (top i bound : ℕ) (f : ℕ → ℕ) → ((k : ℕ) → k ≤ top → f k ≤ bound) → (k : ℕ) → k ≤ top → turned top 1 i f k ≤ bound
@@ -183,9 +178,43 @@ ring-bound top a b p f hp hf k le =
     sum_below-bound (suc top) (a * b) (λ i. p i * turned top 1 i f k)
     (λ i lt. mul-le (p i) (turned top 1 i f k) a b (hp i (omega arith)) (turned-bound top i b f hf k le))
 
+-- ---- products with no x^n = c
+
 -- the sum of a_i * b_j over i + j = s
 unfoldable pub spread : (a b : ℕ → ℕ) → ℕ → ℕ
 spread a b s = sum_below (s + 1) (λ i. a i * b (s - i))
+
+-- the factors may be exchanged
+pub spread-comm : (a b : ℕ → ℕ) (s : ℕ) → spread a b s ≡ spread b a s
+unfolding spread
+spread-comm a b s =
+    sum_below-same (s + 1) (λ i. a i * b (s - i)) (λ i. b (s + 1 - (i + 1)) * a (s - (s + 1 - (i + 1)))) (λ i lt. swapped i lt)
+    ∙ sum_below-backwards (s + 1) (λ i. b i * a (s - i))
+  where
+    swapped : (i : ℕ) → i < s + 1 → a i * b (s - i) ≡ b (s + 1 - (i + 1)) * a (s - (s + 1 - (i + 1)))
+    swapped i lt =
+        let left : s - i ≡ s + 1 - (i + 1) = omega arith in
+        let right : i ≡ s - (s + 1 - (i + 1)) = omega arith in
+        let first = ap b left in
+        let second = ap a right in
+        let product : a i * b (s - i) ≡ a (s - (s + 1 - (i + 1))) * b (s + 1 - (i + 1)) = λ j. second j * first j in
+        omega (arith, product)
+
+-- the product of a sum is the sum of the products
+pub spread-plus : (a b f : ℕ → ℕ) (s : ℕ) → spread (λ i. a i + b i) f s ≡ spread a f s + spread b f s
+unfolding spread
+spread-plus a b f s =
+    sum_below-same (s + 1) (λ i. (a i + b i) * f (s - i)) (λ i. a i * f (s - i) + b i * f (s - i)) (λ i lt. parted (a i) (b i) (f (s - i)))
+    ∙ sum_below-add (s + 1) (λ i. a i * f (s - i)) (λ i. b i * f (s - i))
+  where
+    parted : (u v y : ℕ) → (u + v) * y ≡ u * y + v * y
+    parted u v y = omega arith
+
+-- first factors that agree modulo m have products that agree
+pub spread-mod : (m : ℕ) (a b f : ℕ → ℕ) (s : ℕ) → ((i : ℕ) → a i % m ≡ b i % m) → spread a f s % m ≡ spread b f s % m
+unfolding spread
+spread-mod m a b f s h =
+    sum_below-mod m (s + 1) (λ i. a i * f (s - i)) (λ i. b i * f (s - i)) (λ i lt. times_congruent_right m (f (s - i)) (a i) (b i) (h i))
 
 -- a term of that sum
 abbrev part : (a b : ℕ → ℕ) → (s i : ℕ) → ℕ
@@ -218,7 +247,7 @@ ring-parts : (top c : ℕ) (a b : ℕ → ℕ) (k rest : ℕ) → k + rest ≡ t
 unfolding ring
 ring-parts top c a b k rest e =
     let degree : suc top ≡ k + 1 + rest = omega arith in
-    let split = ap (λ (u : ℕ). sum_below u (term top c a b k)) degree ∙ sum-split (k + 1) rest (term top c a b k) in
+    let split = ap (λ (u : ℕ). sum_below u (term top c a b k)) degree ∙ sum_below-split (k + 1) rest (term top c a b k) in
     let low = terms-low top c a b k in
     let high = terms-high top c a b k rest e in
     omega (arith, split, low, high)
@@ -234,18 +263,18 @@ parts-high : (top : ℕ) (a b : ℕ → ℕ) (k rest : ℕ) → k + rest ≡ top
     → sum_below (k + suc top + 1) (part a b (k + suc top)) ≡ sum_below rest (λ i. part a b (k + suc top) (k + 1 + i))
 parts-high top a b k rest e za zb =
     let size : k + suc top + 1 ≡ k + 1 + (rest + (k + 1)) = omega arith in
-    let split = ap (λ (u : ℕ). sum_below u (part a b (k + suc top))) size ∙ sum-split (k + 1) (rest + (k + 1)) (part a b (k + suc top)) in
-    let again = sum-split rest (k + 1) (λ i. part a b (k + suc top) (k + 1 + i)) in
+    let split = ap (λ (u : ℕ). sum_below u (part a b (k + suc top))) size ∙ sum_below-split (k + 1) (rest + (k + 1)) (part a b (k + suc top)) in
+    let again = sum_below-split rest (k + 1) (λ i. part a b (k + suc top) (k + 1 + i)) in
     let first = before in
     let last = behind in
     omega (arith, split, again, first, last)
   where
     before : sum_below (k + 1) (part a b (k + suc top)) ≡ 0
-    before = sum-zero (k + 1) (part a b (k + suc top)) (λ i lt. times_none (a i) (b (k + suc top - i)) (zb (k + suc top - i) (omega arith)))
+    before = sum_below-nothing (k + 1) (part a b (k + suc top)) (λ i lt. times_none (a i) (b (k + suc top - i)) (zb (k + suc top - i) (omega arith)))
 
     behind : sum_below (k + 1) (λ i. part a b (k + suc top) (k + 1 + (rest + i))) ≡ 0
     behind =
-        sum-zero (k + 1) (λ i. part a b (k + suc top) (k + 1 + (rest + i)))
+        sum_below-nothing (k + 1) (λ i. part a b (k + suc top) (k + 1 + (rest + i)))
         (λ i lt. none_times (a (k + 1 + (rest + i))) (b (k + suc top - (k + 1 + (rest + i)))) (za (k + 1 + (rest + i)) (omega arith)))
 
 -- the sum over i + j = k and c times that over i + j = k + n are the product
