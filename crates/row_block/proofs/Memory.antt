@@ -1,16 +1,17 @@
 -- The memory of a block: what it owns is taken apart and made.
-use Rattle.std.proofs.Common.{◌≡◌, ℕ, ◌+◌, ◌-◌, ◌*◌, ◌^◌, ◌<◌, ◌≤◌, List, [], ◌∷◌, ◌++◌, length, zero, suc, take, drop as drop_l, refl, ap, subst, ◌∙◌, w64, arith}
+use Rattle.std.proofs.Common.{◌≡◌, ℕ, ◌+◌, ◌-◌, ◌*◌, ◌^◌, ◌<◌, ◌≤◌, List, [], ◌∷◌, ◌++◌, length, zero, suc, take, drop as drop_l, length-take, length-drop, take-append-drop, refl, sym, ap, subst, ◌∙◌, w64, arith}
 use seplogic.Ra.Ura.{Ura}
 use base.Fraction.{full_share}
-use base.Fml.{Lft, fsep, froom}
+use base.Fml.{Lft, Fml, fsep, froom}
 use base.Logic.{ent, never, fst∗, snd∗, via, mono_r, id⊢}
 use mir.Syntax.{Ty, ty_array, ty_int}
 use mir.Raw.{raw as bare}
 use mir.Val.{Val, vint, vptr, vstruct, vcons, vnil, of_list}
 use types.Logic.{Logic, sem}
-use types.Kit.{Goal, Step, step, Seq, Item, ‵, ◌$◌, ◌∵◌, !, qed, keep, done, move, drop, rewrite, fsplit, fjoin, fpick, fpack, feq_l, feq_i, flt_l, flt_i}
+use types.Kit.{Goal, Step, step, Seq, Item, ⋆, ‵, ◌⊛◌, given, learn, split, use1, use2, ◌$◌, ◌∵◌, !, qed, keep, done, move, drop, rewrite, fsplit, fjoin, fpick, fpack, feq_l, feq_i, flt_l, flt_i}
 use denote.Array.{Array}
 use denote.Builtin.{u64}
+use denote.Index.{place, place_is, row}
 use denote.Laws.{Is, shows}
 use denote.Memory.{part_at, shared_of}
 use denote.Slice.{elements_shared}
@@ -28,6 +29,7 @@ use Rattle.std.proofs.Handle.{heap_val, heap_Tells}
 use Rattle.std.proofs.RawLayout.{as_raw, as_written}
 use Rattle.std.proofs.alloc.Calls.{token}
 use Rattle.std.proofs.VecSteps.El.{El}
+use Rattle.std.proofs.VecSteps.Rows.{apart, whole, row_cut, row_room, glued}
 use Rattle.row_block.specs.Memory.{words_owned}
 use Rattle.row_block.specs.contracts.words.Words as W
 use Rattle.row_block.proofs.Heap.{Z}
@@ -88,3 +90,29 @@ module _ {M : Type 1} {𝓤 : Ura M} (𝓛 : Logic 𝓤) (b : ℕ) (κ : Lft) wh
 
   pub part_seen : (xs : List ℕ) (i n o : ℕ) → i ≤ length xs → ent 𝓤 (sem 𝓛 (elements_shared u64 xs b o κ)) (sem 𝓛 (elements_shared u64 (take n (drop_l i xs)) b (i * 8 + o) κ))
   part_seen xs i n o le = via 𝓤 (sem 𝓛 (elements_shared u64 (drop_l i xs) b (i * 8 + o) κ)) (from_on xs i o (i * 8 + o) le refl) (up_to n (drop_l i xs) (i * 8 + o))
+
+module _ {M : Type 1} {𝓤 : Ura M} (𝓛 : Logic 𝓤) (b o : ℕ) where
+  abbrev pub words_at : ℕ → List ℕ → Fml
+  words_at n xs = part_at (Array u64 n) full_share xs b o
+
+  abbrev pub room_at : ℕ → ℕ → Fml
+  room_at room n = froom (ty_array τ (room - n)) b (o + n * 8)
+
+  -- the first words are kept, and the others are room again
+  pub keeps : (room from : ℕ) (xs : List ℕ) → from ≤ length xs → length xs ≤ room
+      → ent 𝓤 (⋆ 𝓛 (‵ (words_at (length xs) xs) ∷ ‵ (room_at room (length xs)) ∷ [])) (⋆ 𝓛 (‵ (words_at from (take from xs)) ∷ ‵ (room_at room from) ∷ []))
+  keeps room from xs le fits =
+      let n = length xs in let kept = take from xs in let rest = drop_l from xs in
+      let long : length kept ≡ from = omega (arith, length-take from xs, le) in
+      let left : length rest ≡ n - from = omega (arith, length-drop from xs) in
+      let start : place 8 o (length kept) ≡ o + from * 8 = omega (arith, place_is 8 o (length kept), long) in
+      let on : o + n * 8 ≡ o + from * 8 + length rest * 8 = omega (arith, left, le) in
+      let all : length rest + (room - n) ≡ room - from = omega (arith, left, le, fits) in
+      qed 𝓛 (‵ (words_at n xs) ∷ ‵ (room_at room n) ∷ []) ∵
+      use1 𝓛 (given (length xs ≡ n) (‵ (row u64 full_share xs b o))) (apart E 𝓛 full_share n xs b o) $ learn ! (λ _.
+      rewrite ! 0 (λ (ys : List ℕ). ‵ (row u64 full_share ys b o)) (sym (take-append-drop from xs)) refl $
+      use1 𝓛 (‵ (row u64 full_share kept b o) ⊛ ‵ (row u64 full_share rest b (place 8 o (length kept)))) (row_cut E 𝓛 full_share kept rest b o) $ split ! $
+      use1 𝓛 (‵ (words_at from kept)) (whole E 𝓛 full_share from kept b o long) $ move ! (1 ∷ 2 ∷ []) $
+      rewrite ! 0 (λ (k : ℕ). ‵ (row u64 full_share rest b k)) start refl $ use1 𝓛 (‵ (froom (ty_array τ (length rest)) b (o + from * 8))) (row_room E 𝓛 rest b (o + from * 8)) $
+      rewrite ! 1 (λ (k : ℕ). ‵ (froom (ty_array τ (room - n)) b k)) on refl $
+      use2 𝓛 (‵ (room_at room from)) (glued E 𝓛 (length rest) (room - n) (room - from) b (o + from * 8) all) $ move ! (1 ∷ 0 ∷ []) $ done !)
