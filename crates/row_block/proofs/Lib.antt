@@ -1,0 +1,5 @@
+pub mod Crossing
+pub mod Heap
+pub mod Layouts
+pub mod Memory
+pub mod Stacks
