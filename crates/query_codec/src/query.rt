@@ -1,5 +1,5 @@
 //! The bodies of queries.
-ghost use Rattle.std.specs.Prelude.{◌≡◌, ◌≤◌, ◌*◌, ◌⊎◌, Some, length, take, IfOk, OnOk, IfErr};
+ghost use Rattle.std.specs.Prelude.{◌≡◌, ◌≤◌, ◌*◌, ◌⊎◌, None, Some, length, take, IfOk, OnOk, IfErr};
 ghost use Rattle.psi_residue.specs.Parameters.{parameter_bytes};
 ghost use Rattle.noise_ledger.specs.Verdicts.{parameters_of, ArePassed};
 ghost use Rattle.query_codec.specs.declared.fault.CodecFault.TheVariants.{NoMemory};
@@ -27,6 +27,7 @@ pub fn read_query(
     requires { ArePassed (parameters_of params.now) }
     ensures read { IfOk result (λ cts. cts.items ≡ query_ciphertexts (parameters_of params.now) body.now) }
     ensures query { OnOk result (IsQuery (parameters_of params.now) body.now) }
+    ensures faultless { OnOk result (query_fault (parameters_of params.now) body.now ≡ None) }
     ensures spelled { IfOk result (λ cts. query_body (parameters_of params.now) cts.items ≡ body.now) }
     ensures fault { IfErr result (λ fault. (fault ≡ NoMemory) ⊎ (query_fault (parameters_of params.now) body.now ≡ Some fault)) }
     ensures refused { IfErr result (λ fault. (fault ≡ NoMemory → ⊥) → IsQuery (parameters_of params.now) body.now → ⊥) }

@@ -1,7 +1,7 @@
 use Rattle.std.proofs.Common.{ℕ, List, arith, [], ◌+◌, ◌*◌, subst, sym}
 use Rattle.psi_residue.specs.Ciphertexts.{list_at, list_modulus}
 use Rattle.psi_residue.specs.Polynomials.{IsPolynomial}
-use Rattle.bfv_core.proofs.Filling.{IsFilled-all}
+use Rattle.psi_residue.proofs.Filling.{IsFilled-all}
 use Rattle.query_codec.specs.Ciphertexts.{ciphertext_in, list_in}
 use Rattle.query_codec.proofs.Residues.{list_in-polynomial}
 use Rattle.query_codec.proofs.ciphertexts.read_ciphertext.Goals as goal

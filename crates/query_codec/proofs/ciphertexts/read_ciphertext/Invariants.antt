@@ -1,6 +1,6 @@
 use Rattle.std.proofs.Common.{[], ◌+◌, ◌*◌}
 use Rattle.psi_residue.specs.Ciphertexts.{IsCiphertext, list_at}
-use Rattle.bfv_core.proofs.Filling.{IsFilled}
+use Rattle.psi_residue.proofs.Filling.{IsFilled}
 use Rattle.query_codec.specs.Ciphertexts.{AreBelow, list_in}
 use Rattle.query_codec.proofs.ciphertexts.read_ciphertext.Given as goal
 

@@ -1,5 +1,5 @@
 use Rattle.std.proofs.Common.{refl, ◌∙◌}
-use Rattle.std.proofs.lemmas.Result.{err_from_is_err_and, IfOk-weaker, IfErr-weaker}
+use Rattle.std.proofs.lemmas.Result.{err_from_is_err_and, on_ok_weaker, IfOk-weaker, IfErr-weaker}
 use Rattle.noise_ledger.specs.Verdicts.{parameters_of}
 use Rattle.query_codec.specs.Queries.{powers_of}
 use Rattle.query_codec.proofs.QueryBodies.{AreCiphertexts-behind, IfOk-both, no_fault-IsQuery, no_wrong-behind, query_ciphertexts-is, spelled_query}
@@ -35,3 +35,13 @@ returns-clause-refused c =
     IfErr-weaker c.read_ciphertexts.result _ _
     (λ fault h other q. no_wrong-behind c.args.body.now 8 8 c.ciphertexts.result (powers_of (parameters_of c.args.params.now)) refl c.ciphertexts.ensures.number q.fit fault h other)
     c.read_ciphertexts.ensures.fault
+
+pub returns-clause-faultless : goal.returns-clause-faultless
+returns-clause-faultless c =
+    let p = parameters_of c.args.params.now in
+    let body = c.args.body.now in
+    on_ok_weaker c.read_ciphertexts.result
+    (λ are.
+    let behind = AreCiphertexts-behind body 8 8 c.ciphertexts.result (powers_of p) refl c.ciphertexts.ensures.number are in
+    no_fault-IsQuery p body (record { size = c.in_ok-test_head.ensures.size; header = c.in_ok-test_head.ensures.header; fit = behind.fit }))
+    c.read_ciphertexts.ensures.whole
