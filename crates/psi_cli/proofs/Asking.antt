@@ -1,24 +1,13 @@
 -- What an Ask finds in the book, and its reply.
 use Rattle.std.proofs.Common.{◌≡◌, ℕ, zero, suc, ◌+◌, ◌*◌, ◌≤◌, ◌<◌, List, [], ◌∷◌, length, map, refl, sym, ap, ◌∙◌, subst, arith}
-use Rattle.std.proofs.lemmas.List.FromFn.{length-map-range_with_len}
 use Rattle.psi_residue.specs.Parameters.{Parameters}
 use Rattle.psi_bundle.specs.declared.member.Member.{Member}
-use Rattle.psi_bundle.specs.Bodies.{reply_body}
 use Rattle.psi_bundle.specs.Bins.{bin_at}
 use Rattle.psi_bundle.specs.Versions.{Row, row_at, bins_at, planes_of}
-use Rattle.query_codec.specs.Queries.{query_ciphertext, query_ciphertexts}
+use Rattle.query_codec.specs.Replies.{IsReply, reply_body, reply_length, reply_counts}
 use Rattle.sender_core.specs.Kept.{Contents, IsConsistent, Kept, kept_row, row_of, rows_of}
-use Rattle.psi_cli.specs.Evaluation.{AreWithin, reply_text}
+use Rattle.psi_cli.specs.Evaluation.{AreWithin}
 use Rattle.psi_cli.specs.Inputs.{serve_parameters}
-use Rattle.psi_cli.proofs.Lengths.{length-reply_body, row-within}
-use Rattle.psi_cli.proofs.ReplyTexts.{reply-is}
-
--- a query of one row has as many ciphertexts as powers
-pub length-query : (p : Parameters) (capacity : ℕ) (body : List ℕ) → p ≡ serve_parameters capacity → length (query_ciphertexts p body) ≡ capacity
-unfolding query_ciphertexts
-length-query p capacity body shape =
-    ap (λ (q : Parameters). length (query_ciphertexts q body)) shape
-    ∙ length-map-range_with_len (query_ciphertext body) 0 (1 * capacity) ∙ omega arith
 
 -- the rows of the version
 row-of_rows : {C : Type 0} (rows : List (List (Kept C))) (r : ℕ) → row_at (rows_of rows) r ≡ row_of (kept_row rows r)
@@ -34,7 +23,7 @@ only_row (row ∷ other ∷ rows) one = absurd (omega arith)
 -- the book's one row: what a snapshot shows of it
 module _ {C : Type 0} (contents : C → List (List Member)) (is_under : C → List ℕ → Type 0) (h : Contents C) (p : Parameters) (capacity : ℕ) (seen : List (Kept C))
     (consistent : IsConsistent contents is_under h) (same : h.parameters ≡ p) (shape : p ≡ serve_parameters capacity) (shown : seen ≡ kept_row h.rows 0) where
-  rows-are : rows_of h.rows ≡ row_of seen ∷ []
+  pub rows-are : rows_of h.rows ≡ row_of seen ∷ []
   rows-are =
       let one : length (rows_of h.rows) ≡ 1 = consistent.sound.each_row ∙ ap (λ (q : Parameters). q.rows) (same ∙ shape) in
       only_row h.rows one ∙ ap (λ (row : List (Kept C)). row_of row ∷ []) (sym shown)
@@ -50,22 +39,15 @@ module _ {C : Type 0} (contents : C → List (List Member)) (is_under : C → Li
         bin_of : Row → ℕ → ℕ → List Member
         bin_of r u b = bin_at (bins_at r u) b
 
-  -- the reply's body is that of the definition
-  pub body-is : (query : List (List (List ℕ))) (body text : List ℕ) → query ≡ query_ciphertexts p body → text ≡ reply_text p (row_of seen) query → text ≡ reply_body p (rows_of h.rows) body
-  body-is query body text read told =
-      told
-      ∙ ap (λ (q : List (List (List ℕ))). reply_text p (row_of seen) q) read
-      ∙ ap (λ (q : Parameters). reply_text q (row_of seen) (query_ciphertexts q body)) shape
-      ∙ reply-is capacity body (row_of seen)
-      ∙ ap (λ (q : Parameters). reply_body q (row_of seen ∷ []) body) (sym shape)
-      ∙ ap (λ (rows : List Row). reply_body p rows body) (sym rows-are)
-
-  -- and it fits into a frame
-  pub body-fits : (query : List (List (List ℕ))) (body text : List ℕ) → query ≡ query_ciphertexts p body → text ≡ reply_text p (row_of seen) query → length text ≤ 5242890
-  body-fits query body text read told =
+  -- there are at most 64 bundles
+  pub seen-few : length (row_of seen) ≤ 64
+  seen-few =
       let planes = subst (λ (rows : List Row). planes_of h.parameters rows ≤ 64) rows-are consistent.sound.limits.0 in
-      let few = row-within capacity (row_of seen) (subst (λ (q : Parameters). planes_of q (row_of seen ∷ []) ≤ 64) (same ∙ shape) planes) in
-      let size : length text ≡ 10 + length (row_of seen) * 81920 =
-      ap length (body-is query body text read told) ∙ ap (λ (rows : List Row). length (reply_body p rows body)) rows-are
-      ∙ ap (λ (q : Parameters). length (reply_body q (row_of seen ∷ []) body)) shape ∙ length-reply_body capacity (row_of seen) body in
-      omega (arith, size, few)
+      let mine = subst (λ (q : Parameters). planes_of q (row_of seen ∷ []) ≤ 64) (same ∙ shape) planes in
+      row-few capacity (row_of seen) mine where
+        row-few : (capacity : ℕ) (row : Row) → planes_of (serve_parameters capacity) (row ∷ []) ≤ 64 → length row ≤ 64
+        row-few capacity row h = omega (arith, h)
+
+  -- the reply's body is that of the book's rows
+  pub body-is : (query : List (List (List ℕ))) (text : List ℕ) → text ≡ reply_body p (row_of seen ∷ []) query → text ≡ reply_body p (rows_of h.rows) query
+  body-is query text told = told ∙ ap (λ (rows : List Row). reply_body p rows query) (sym rows-are)

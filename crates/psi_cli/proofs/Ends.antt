@@ -4,9 +4,10 @@ use Rattle.std.proofs.Common.{refl, sym, ap, ◌∙◌, subst, arith, inl, inr}
 use Rattle.psi_residue.specs.Parameters.{Parameters}
 use Rattle.psi_bundle.specs.Versions.{empty_version}
 use Rattle.psi_frames.specs.declared.frame.Frame.{Frame}
-use Rattle.psi_frames.specs.Inputs.{IsPlainInput}
+use Rattle.psi_frames.specs.Inputs.{IsOneRoundInput}
 use Rattle.psi_frames.specs.OneLane.{lane_replies}
-use Rattle.psi_frames.specs.Served.{text_of, IsOneLaneText}
+use Rattle.psi_frames.specs.Requests.{requests_from}
+use Rattle.psi_frames.specs.Served.{text_of, IsOneLaneTextOf}
 use Rattle.psi_outside.specs.declared.faults.ReadFault.{ReadFault}
 use Rattle.psi_outside.specs.declared.faults.ReadFault.TheVariants as read
 use Rattle.psi_outside.specs.Causes.{count_on, Rose}
@@ -18,18 +19,19 @@ use Rattle.std.specs.Io.KnownBytes.{Appends}
 use Rattle.noise_ledger.specs.Verdicts.{ArePassed}
 use Rattle.psi_cli.specs.declared.status.Status.{Status}
 use Rattle.psi_cli.specs.declared.status.Status.TheVariants as status
-use Rattle.psi_cli.specs.Runs.{AsksFor, Ends, IsAnswered, IsNoInput, GivesUp, Leaves, number_of, status_of_read}
+use Rattle.psi_cli.specs.Leaving.{Ends, GivesUp, IsStatus, Leaves, number_of, status_of_read}
+use Rattle.psi_cli.specs.Runs.{AsksFor, IsAnswered, IsNoInput}
 use Rattle.psi_cli.proofs.Served.{text-input, length-input}
 
 -- what serving says of its text
 abbrev pub IsServedText : Parameters → List ℕ → List ℕ → Type 0
-IsServedText p bytes text = (frames : List Frame) × IsPlainInput p bytes frames × (text ≡ text_of (lane_replies p (empty_version p) frames))
+IsServedText p bytes text = (frames : List Frame) × IsOneRoundInput p bytes frames × (text ≡ text_of (lane_replies p (empty_version p) (requests_from p 0 frames)))
 
 answered-bytes : (p : Parameters) (bytes text : List ℕ) → IsServedText p bytes text → IsAnswered p bytes text
 answered-bytes p bytes text h = record {
   frames = h.0;
   input = h.1;
-  served = subst (λ (t : List ℕ). IsOneLaneText p h.0 t) (sym h.2) (text-input p bytes h.0 h.1);
+  served = subst (λ (t : List ℕ). IsOneLaneTextOf p h.0 t) (sym h.2) (text-input p bytes h.0 h.1);
 }
 
 -- the text answers what the source had left, where that is told
@@ -140,18 +142,21 @@ bad-told p (Some bytes) old new status.WriteFault told leaves passed = λ none.
 bad-told p (Some bytes) old new status.NoMemory told leaves passed = λ none. inr (inr refl)
 
 -- where they are one
+abbrev pub IsServedStatus : ℕ → Type 0
+IsServedStatus n = (n ≡ 0) ⊎ ((n ≡ 5) ⊎ ((n ≡ 6) ⊎ (n ≡ 7)))
+
 complete-told : (p : Parameters) (left : Option (List ℕ)) (old new : Ends) (s : Status) → old.left ≡ left → Leaves p old new s → ArePassed p
-    → IfSome left (λ bytes. (text : List ℕ) → IsAnswered p bytes text → (number_of s ≡ 0) ⊎ ((number_of s ≡ 5) ⊎ ((number_of s ≡ 6) ⊎ (number_of s ≡ 7))))
+    → IfSome left (λ bytes. (frames : List Frame) → IsOneRoundInput p bytes frames → IsServedStatus (number_of s))
 complete-told p None old new s told leaves passed = tt
-complete-told p (Some bytes) old new status.Done told leaves passed = λ text answered. inl refl
+complete-told p (Some bytes) old new status.Done told leaves passed = λ frames input. inl refl
 complete-told p (Some bytes) old new status.Words told leaves passed = absurd leaves
 complete-told p (Some bytes) old new status.Parameters told leaves passed = absurd (leaves.refused passed)
-complete-told p (Some bytes) old new status.BadInput told leaves passed = λ text answered.
+complete-told p (Some bytes) old new status.BadInput told leaves passed = λ frames input.
     let none = subst (λ (left : Option (List ℕ)). IfSome left (IsNoInput p)) told leaves.bad in
-    absurd (answered-input p bytes text answered none)
-complete-told p (Some bytes) old new status.ReadFault told leaves passed = λ text answered. inr (inl refl)
-complete-told p (Some bytes) old new status.WriteFault told leaves passed = λ text answered. inr (inr (inl refl))
-complete-told p (Some bytes) old new status.NoMemory told leaves passed = λ text answered. inr (inr (inr refl))
+    absurd (none frames input)
+complete-told p (Some bytes) old new status.ReadFault told leaves passed = λ frames input. inr (inl refl)
+complete-told p (Some bytes) old new status.WriteFault told leaves passed = λ frames input. inr (inr (inl refl))
+complete-told p (Some bytes) old new status.NoMemory told leaves passed = λ frames input. inr (inr (inr refl))
 
 pub bad-asked : (words : List (List ℕ)) (capacity : ℕ) (old new : Ends) (s : Status) (n : ℕ) → n ≡ number_of s → IsServe words capacity → Leaves (serve_parameters capacity) old new s
     → (p : Parameters) → AsksFor words p → ArePassed p → IfSome old.left (λ bytes. IsNoInput p bytes → (n ≡ 4) ⊎ ((n ≡ 5) ⊎ (n ≡ 7)))
@@ -161,8 +166,33 @@ bad-asked words capacity old new s n e h leaves p asked passed =
     (bad-told p old.left old new s refl (subst (λ (q : Parameters). Leaves q old new s) (sym same) leaves) passed)
 
 pub complete-asked : (words : List (List ℕ)) (capacity : ℕ) (old new : Ends) (s : Status) (n : ℕ) → n ≡ number_of s → IsServe words capacity → Leaves (serve_parameters capacity) old new s
-    → (p : Parameters) → AsksFor words p → ArePassed p → IfSome old.left (λ bytes. (text : List ℕ) → IsAnswered p bytes text → (n ≡ 0) ⊎ ((n ≡ 5) ⊎ ((n ≡ 6) ⊎ (n ≡ 7))))
+    → (p : Parameters) → AsksFor words p → ArePassed p → IfSome old.left (λ bytes. (frames : List Frame) → IsOneRoundInput p bytes frames → IsServedStatus n)
 complete-asked words capacity old new s n e h leaves p asked passed =
     let same = asks-same words capacity p h asked in
-    subst (λ (m : ℕ). IfSome old.left (λ bytes. (text : List ℕ) → IsAnswered p bytes text → (m ≡ 0) ⊎ ((m ≡ 5) ⊎ ((m ≡ 6) ⊎ (m ≡ 7))))) (sym e)
+    subst (λ (m : ℕ). IfSome old.left (λ bytes. (frames : List Frame) → IsOneRoundInput p bytes frames → IsServedStatus m)) (sym e)
     (complete-told p old.left old new s refl (subst (λ (q : Parameters). Leaves q old new s) (sym same) leaves) passed)
+
+-- each status has one of the numbers
+pub number-is : (s : Status) (n : ℕ) → n ≡ number_of s → IsStatus n
+number-is status.Done n e = inl e
+number-is status.Words n e = inr (inl e)
+number-is status.Parameters n e = inr (inr (inl e))
+number-is status.BadInput n e = inr (inr (inr (inl e)))
+number-is status.ReadFault n e = inr (inr (inr (inr (inl e))))
+number-is status.WriteFault n e = inr (inr (inr (inr (inr (inl e)))))
+number-is status.NoMemory n e = inr (inr (inr (inr (inr (inr e)))))
+
+-- with 2 and 3 nothing was read
+pub unread-by : (p : Parameters) (old new : Ends) (s : Status) (n : ℕ) → n ≡ number_of s → Leaves p old new s → (n ≡ 2) ⊎ (n ≡ 3) → (new.left ≡ old.left) × (new.reads_failed ≡ old.reads_failed)
+unread-by p old new status.Parameters n e h two_or_three = (h.unread.left, h.unread.no_read_failed)
+unread-by p old new status.Words n e h two_or_three = absurd h
+unread-by p old new status.Done n e h (inl two) = absurd (omega (arith, e, two))
+unread-by p old new status.Done n e h (inr three) = absurd (omega (arith, e, three))
+unread-by p old new status.BadInput n e h (inl two) = absurd (omega (arith, e, two))
+unread-by p old new status.BadInput n e h (inr three) = absurd (omega (arith, e, three))
+unread-by p old new status.ReadFault n e h (inl two) = absurd (omega (arith, e, two))
+unread-by p old new status.ReadFault n e h (inr three) = absurd (omega (arith, e, three))
+unread-by p old new status.WriteFault n e h (inl two) = absurd (omega (arith, e, two))
+unread-by p old new status.WriteFault n e h (inr three) = absurd (omega (arith, e, three))
+unread-by p old new status.NoMemory n e h (inl two) = absurd (omega (arith, e, two))
+unread-by p old new status.NoMemory n e h (inr three) = absurd (omega (arith, e, three))

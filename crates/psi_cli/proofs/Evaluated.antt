@@ -6,10 +6,9 @@ use Rattle.psi_residue.specs.Numbers.{scale, first_modulus, second_modulus, ring
 use Rattle.psi_residue.specs.Ring.{product, product_at}
 use Rattle.psi_residue.specs.Sums.{sum_below, table}
 use Rattle.psi_residue.proofs.Sums.{length-table, slice_index-table, same_as_table, sum_below-more}
-use Rattle.bfv_core.specs.Encryptions.{list_at}
+use Rattle.psi_residue.specs.Ciphertexts.{ciphertext_at, list_at}
 use Rattle.bfv_core.specs.EncryptedLists.{added, scaled, with_plain, with_product, list_with_product, zero_lists}
-use Rattle.bfv_core.specs.Evaluations.{evaluated, evaluated_at}
-use Rattle.psi_cli.specs.Evaluation.{ciphertext_at}
+use Rattle.psi_residue.specs.Evaluations.{evaluated, evaluated_at}
 use Rattle.psi_cli.proofs.Tables.{table-same}
 
 -- (0 + x) % m, with a zero list and the scaled plaintext
@@ -73,3 +72,9 @@ pub same_at : (query : List (List (List ℕ))) (k : ℕ) (ct : List (List ℕ)) 
 same_at [] k ct lt is = absurd (omega arith)
 same_at (c ∷ cs) zero ct lt is = is
 same_at (c ∷ cs) (suc k) ct lt is = same_at cs k ct (omega arith) is
+
+-- the first row's ciphertexts are the first of the query
+pub first-row : (capacity : ℕ) (factors : ℕ → List ℕ) (query : List (List (List ℕ))) → evaluated capacity factors (ciphertext_at query) ≡ evaluated capacity factors (λ k. ciphertext_at query (0 * capacity + k))
+first-row capacity factors query =
+    let same : (k : ℕ) → k ≡ 0 * capacity + k = λ k. omega arith in
+    λ i. evaluated capacity factors (λ k. ciphertext_at query (same k i))

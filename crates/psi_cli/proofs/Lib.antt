@@ -1,10 +1,8 @@
+pub mod Tables
+pub mod RootPlanes
+pub mod Evaluated
+pub mod Sighted
 pub mod Asking
 pub mod Calls
-pub mod Ends
-pub mod Evaluated
-pub mod Lengths
-pub mod ReplyTexts
-pub mod RootPlanes
 pub mod Served
-pub mod Sighted
-pub mod Tables
+pub mod Ends

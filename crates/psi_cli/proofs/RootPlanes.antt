@@ -4,6 +4,7 @@ use Rattle.std.specs.Prelude.{Result, Ok, Err, IfOk}
 use Rattle.std.proofs.Math.Nat.{mod-lt}
 use Rattle.std.proofs.lemmas.List.{length-map, get_or-map}
 use Rattle.psi_residue.specs.Numbers.{plain_modulus, ring_degree, root_inverse, degree_inverse}
+use Rattle.psi_residue.specs.Parameters.{Parameters}
 use Rattle.psi_residue.specs.Polynomials.{IsPolynomial}
 use Rattle.psi_residue.specs.RootPolynomials.{root_coefficient}
 use Rattle.psi_residue.specs.Slots.{packed, packed_at, packed_list, coefficient_from}
@@ -12,18 +13,18 @@ use Rattle.psi_residue.proofs.Sums.{sum_below-same, length-table, slice_index-ta
 use Rattle.psi_bundle.specs.declared.member.Member.{Member}
 use Rattle.psi_bundle.specs.Bins.{bin_at, roots_of}
 use Rattle.psi_bundle.specs.Planes.{one_coefficient, slot_coefficient, packed_plane}
-use Rattle.psi_cli.specs.Evaluation.{IsRootPlane, IsSlotPolynomial, column, root_factors}
+use Rattle.psi_cli.specs.Evaluation.{IsRootPlane, IsSlotPolynomial, column}
 use Rattle.psi_cli.proofs.Tables.{table-same}
 
 -- a coefficient over the slots
-column-at : (capacity : ℕ) (bins : List (List Member)) (plane : List (List ℕ)) (k slot : ℕ) → IsRootPlane capacity bins plane → k ≤ capacity → slot < ring_degree
-    → get_or (column plane k) slot 0 ≡ slot_coefficient bins 0 slot k
-column-at capacity bins plane k slot h le lt =
+column-at : (p : Parameters) (bins : List (List Member)) (plane : List (List ℕ)) (k slot : ℕ) → IsRootPlane p bins plane → k ≤ p.capacity → slot < ring_degree
+    → get_or (column plane k) slot 0 ≡ slot_coefficient p bins 0 slot k
+column-at p bins plane k slot h le lt =
     get_or-map (λ (coefficients : List ℕ). get_or coefficients k 0) plane slot [] 0 (omega (arith, h.size, lt)) ∙ (h.each slot lt).each k le
 
 -- they are plaintext values
-pub column-plaintext : (capacity : ℕ) (bins : List (List Member)) (plane : List (List ℕ)) (k : ℕ) → IsRootPlane capacity bins plane → k ≤ capacity → IsPolynomial plain_modulus (column plane k)
-column-plaintext capacity bins plane k h le = record {
+pub column-plaintext : (p : Parameters) (bins : List (List Member)) (plane : List (List ℕ)) (k : ℕ) → IsRootPlane p bins plane → k ≤ p.capacity → IsPolynomial plain_modulus (column plane k)
+column-plaintext p bins plane k h le = record {
   size = length-map plane (λ (coefficients : List ℕ). get_or coefficients k 0) ∙ h.size;
   below = λ slot lt. subst (λ (c : ℕ). c < plain_modulus) (sym (get_or-map (λ (coefficients : List ℕ). get_or coefficients k 0) plane slot [] 0 (omega (arith, h.size, lt)))) ((h.each slot lt).below k);
 }
@@ -36,27 +37,27 @@ packed_at-same n v w i e h =
     (sum_below-same ring_degree (λ j. v j * root_inverse ^ ((2 * j + 1) * i)) (λ j. w j * root_inverse ^ ((2 * j + 1) * i)) (λ j lt. ap (λ (u : ℕ). u * root_inverse ^ ((2 * j + 1) * i)) (h j (omega (arith, e, lt)))))
 
 -- packed, they are the plane's factor
-pub column-packed : (capacity : ℕ) (bins : List (List Member)) (plane : List (List ℕ)) (k : ℕ) → IsRootPlane capacity bins plane → k ≤ capacity → packed_list (column plane k) ≡ root_factors bins k
+pub column-packed : (p : Parameters) (bins : List (List Member)) (plane : List (List ℕ)) (k : ℕ) → IsRootPlane p bins plane → k ≤ p.capacity → packed_list (column plane k) ≡ packed_plane p bins 0 k
 unfolding packed_list packed
-column-packed capacity bins plane k h le =
-    table-same ring_degree (packed_at (λ j. get_or (column plane k) j 0)) (packed_at (λ slot. slot_coefficient bins 0 slot k))
-    (λ i lt. packed_at-same ring_degree (λ j. get_or (column plane k) j 0) (λ slot. slot_coefficient bins 0 slot k) i refl (λ j below. column-at capacity bins plane k j h le below))
+column-packed p bins plane k h le =
+    table-same ring_degree (packed_at (λ j. get_or (column plane k) j 0)) (packed_at (λ slot. slot_coefficient p bins 0 slot k))
+    (λ i lt. packed_at-same ring_degree (λ j. get_or (column plane k) j 0) (λ slot. slot_coefficient p bins 0 slot k) i refl (λ j below. column-at p bins plane k j h le below))
 
 -- each slot's polynomial reaches every power up to the capacity
-pub plane-reaches : (capacity : ℕ) (bins : List (List Member)) (plane : List (List ℕ)) (k slot : ℕ) → IsRootPlane capacity bins plane → k ≤ capacity → slot < length plane → k < length (get_or plane slot [])
-plane-reaches capacity bins plane k slot h le lt = let size = (h.each slot (omega (arith, h.size, lt))).size in omega (arith, size, le)
+pub plane-reaches : (p : Parameters) (bins : List (List Member)) (plane : List (List ℕ)) (k slot : ℕ) → IsRootPlane p bins plane → k ≤ p.capacity → slot < length plane → k < length (get_or plane slot [])
+plane-reaches p bins plane k slot h le lt = let size = (h.each slot (omega (arith, h.size, lt))).size in omega (arith, size, le)
 
 -- ---- one slot
 
 -- a slot below the last one has the roots of its part
-pub slot-roots : (bins : List (List Member)) (slot k : ℕ) → slot < 4095 → root_coefficient (roots_of (bin_at bins (slot / 5)) (slot % 5)) k ≡ slot_coefficient bins 0 slot k
+pub slot-roots : (p : Parameters) (bins : List (List Member)) (slot k : ℕ) → slot < 4095 → root_coefficient (roots_of (bin_at bins (slot / 5)) (slot % 5)) k ≡ slot_coefficient p bins 0 slot k
 unfolding slot_coefficient
-slot-roots bins slot k lt = let test : nat_lt slot 4095 ≡ true = lt-ltb slot 4095 lt in rw test refl
+slot-roots p bins slot k lt = let test : nat_lt slot 4095 ≡ true = lt-ltb slot 4095 lt in rw test refl
 
 -- the last slot has the constant 1
-pub slot-last : (bins : List (List Member)) (slot k : ℕ) → 4095 ≤ slot → one_coefficient k ≡ slot_coefficient bins 0 slot k
+pub slot-last : (p : Parameters) (bins : List (List Member)) (slot k : ℕ) → 4095 ≤ slot → one_coefficient k ≡ slot_coefficient p bins 0 slot k
 unfolding slot_coefficient
-slot-last bins slot k le = let test : nat_lt slot 4095 ≡ false = le-ltb slot 4095 le in rw test refl
+slot-last p bins slot k le = let test : nat_lt slot 4095 ≡ false = le-ltb slot 4095 le in rw test refl
 
 -- ---- the plane, slot by slot
 
@@ -92,19 +93,19 @@ one_coefficient-below zero = omega arith
 one_coefficient-below (suc k) = omega arith
 
 -- the polynomial of a slot, by its roots or as the constant 1
-pub slot-by_roots : (capacity : ℕ) (bins : List (List Member)) (slot : ℕ) (xs : List ℕ) → slot < 4095 → length xs ≡ capacity + 1
-    → ((k : ℕ) → get_or xs k 0 ≡ root_coefficient (roots_of (bin_at bins (slot / 5)) (slot % 5)) k) → IsSlotPolynomial capacity bins slot xs
-slot-by_roots capacity bins slot xs lt size each = record {
+pub slot-by_roots : (p : Parameters) (bins : List (List Member)) (slot : ℕ) (xs : List ℕ) → slot < 4095 → length xs ≡ p.capacity + 1
+    → ((k : ℕ) → get_or xs k 0 ≡ root_coefficient (roots_of (bin_at bins (slot / 5)) (slot % 5)) k) → IsSlotPolynomial p bins slot xs
+slot-by_roots p bins slot xs lt size each = record {
   size = size;
-  each = λ k le. each k ∙ slot-roots bins slot k lt;
+  each = λ k le. each k ∙ slot-roots p bins slot k lt;
   below = λ k. subst (λ (c : ℕ). c < plain_modulus) (sym (each k)) (root_coefficient-below (roots_of (bin_at bins (slot / 5)) (slot % 5)) k);
 }
 
-pub slot-by_one : (capacity : ℕ) (bins : List (List Member)) (slot : ℕ) (xs : List ℕ) → 4095 ≤ slot → length xs ≡ capacity + 1
-    → ((k : ℕ) → get_or xs k 0 ≡ one_coefficient k) → IsSlotPolynomial capacity bins slot xs
-slot-by_one capacity bins slot xs le size each = record {
+pub slot-by_one : (p : Parameters) (bins : List (List Member)) (slot : ℕ) (xs : List ℕ) → 4095 ≤ slot → length xs ≡ p.capacity + 1
+    → ((k : ℕ) → get_or xs k 0 ≡ one_coefficient k) → IsSlotPolynomial p bins slot xs
+slot-by_one p bins slot xs le size each = record {
   size = size;
-  each = λ k _. each k ∙ slot-last bins slot k le;
+  each = λ k _. each k ∙ slot-last p bins slot k le;
   below = λ k. subst (λ (c : ℕ). c < plain_modulus) (sym (each k)) (one_coefficient-below k);
 }
 
@@ -117,14 +118,9 @@ coefficient-resized (x ∷ xs) n zero = refl
 coefficient-resized (x ∷ xs) n (suc k) = coefficient-resized xs n k
 
 -- each polynomial of a plane that is kept some other way reaches a power up to the capacity
-pub vectors-reach : {X : Type 0} (f : X → List ℕ) (capacity : ℕ) (bins : List (List Member)) (xs : List X) (power : ℕ) → IsRootPlane capacity bins (map f xs) → power ≤ capacity
+pub vectors-reach : {X : Type 0} (f : X → List ℕ) (p : Parameters) (bins : List (List Member)) (xs : List X) (power : ℕ) → IsRootPlane p bins (map f xs) → power ≤ p.capacity
     → (k : ℕ) (d : X) → k < length xs → power < length (f (get_or xs k d))
-vectors-reach f capacity bins xs power h le k d lt =
+vectors-reach f p bins xs power h le k d lt =
     let at = get_or-map f xs k d [] lt in
     let size = length-map xs f in
-    subst (λ (coefficients : List ℕ). power < length coefficients) at (plane-reaches capacity bins (map f xs) power k h le (omega (arith, size, lt)))
-
--- two facts of an Ok value give a third
-pub both-told : {T E : Type 0} (r : Result T E) (P Q R : T → Type 0) → ((v : T) → P v → Q v → R v) → IfOk r P → IfOk r Q → IfOk r R
-both-told (Ok v) P Q R f p q = f v p q
-both-told (Err e) P Q R f p q = tt
+    subst (λ (coefficients : List ℕ). power < length coefficients) at (plane-reaches p bins (map f xs) power k h le (omega (arith, size, lt)))

@@ -1,116 +1,150 @@
--- Laws of inputs in which no request has a code.
-use Rattle.std.specs.Prelude.{◌≡◌, ℕ, suc, ◌+◌, ◌≤◌, ◌<◌, ◌^◌, List, [], ◌∷◌, ◌++◌, length, drop, nat_eq, nat_le, is_some, if◌then◌else◌, slice_index_or, true, false, Bool}
+-- The loops over frames and requests: what is told so far and what is left are all of it.
+use Rattle.std.specs.Prelude.{◌≡◌, ◌⊎◌, ℕ, ◌+◌, ◌*◌, ◌<◌, ◌≤◌, ◌^◌, Bool, true, false, not, nat_eq, nat_le, IsTrue, List, [], ◌∷◌, ◌++◌, length, take, drop, slice_index_or, Option, None, Some, Result, Ok, Err, IfOk, OnOk, if◌then◌else◌, ⊤}
 use Rattle.std.specs.List.{All, AllByRecursion}
-use Rattle.std.specs.Prelude.{Result, Ok, Err, IfOk, OnOk}
-use Rattle.std.proofs.Common.{Vec, Global, refl, sym, ap, ◌∙◌, arith, subst, add-one, append_assoc, append-nil}
-use Rattle.std.proofs.Math.Seq.{drop-cons}
-use Rattle.std.proofs.lemmas.List.Elements.{All-from_recursion, recursion_from_All, All-weaker}
+use Rattle.std.proofs.Common.{refl, sym, ap, ◌∙◌, subst, arith, inl, inr, append_assoc, length-append, Vec, Global}
+use Rattle.std.proofs.lemmas.Bool.{eqb-true}
+use Rattle.std.proofs.lemmas.Bool.Decides.{nat_tests}
+use Rattle.std.proofs.Common.{add-one}
+use Rattle.std.proofs.lemmas.List.{append-nil, drop-cons}
+use Rattle.std.proofs.lemmas.List.Elements.{All-from_recursion, All-push, recursion_from_All}
+use Rattle.std.proofs.lemmas.List.FromFn.{length-map-range_with_len}
 use Rattle.psi_residue.specs.Parameters.{Parameters}
-use Rattle.std.specs.FinMap as fin
-use Rattle.psi_bundle.specs.declared.history.Call.{Call}
-use Rattle.psi_bundle.specs.declared.history.Call.TheVariants as call
-use Rattle.psi_bundle.specs.declared.history.Answer.TheVariants as answer
-use Rattle.psi_bundle.specs.Steps.{Step, step, replace, add, remove, repack, next, unchanged, fits}
-use Rattle.psi_bundle.specs.Versions.{Version, empty_version, placed, planes_of, cells_of, greatest_stamp, packed_row, members_of_row, row_at}
+use Rattle.psi_bundle.specs.Versions.{HasLabelLength, Version, empty_version, has_label_length}
+use Rattle.query_codec.specs.Ciphertexts.{ciphertext_in, ciphertexts_in}
+use Rattle.query_codec.specs.Queries.{query_ciphertexts, powers_of}
 use Rattle.psi_frames.specs.declared.frame.Frame.{Frame}
-use Rattle.psi_frames.specs.Frames.{reply_bytes, ask_kind}
-use Rattle.psi_frames.specs.Inputs.{IsPlainFrame, IsPlainInput, AreFrames, IsOneRoundAtMost}
-use Rattle.psi_frames.specs.Requests.{call_of, code_of}
-use Rattle.psi_frames.specs.Rounds.{Request, requests_from}
-use Rattle.psi_frames.specs.Served.{text_of, IsOneLaneText}
-use Rattle.psi_frames.specs.OneLane.{lane_next, lane_reply, lane_replies}
-use Rattle.psi_frames.specs.LaneLaws.{IsPlain, IsOneRound, text-lane, count-step}
-use Rattle.psi_frames.proofs.RoundLaws.{requests_from-cons, one_round-bounds}
-use Rattle.psi_cli.specs.Inputs.{asks_behind, AreUncoded}
+use Rattle.psi_frames.specs.declared.request.Request.{Request}
+use Rattle.psi_frames.specs.declared.request.Request.TheVariants as request
+use Rattle.psi_frames.specs.Frames.{reply_bytes, put_kind, drop_kind, ask_kind, go_kind}
+use Rattle.psi_frames.specs.Inputs.{AreFrames, IsOneRoundAtMost, IsOneRoundInput, IsPutDropAskFrame}
+use Rattle.psi_frames.specs.OneLane.{HasByteCode, lane_next, lane_reply, lane_replies}
+use Rattle.item_slots.specs.Tags.{tag_of}
+use Rattle.psi_frames.specs.Requests.{asks_behind, ask_code, ask_request, code_of, counted, drop_code, drop_request, has_item, item_of, label_of, number_of, put_code, put_request, request_of, requests_from, session_of, unless_coded}
+use Rattle.psi_frames.specs.Rounds.{AreRounds, IsRound, request_rounds}
+use Rattle.psi_frames.specs.Served.{IsOneLaneText, IsOneLaneTextOf, requests_of, text_of}
+use Rattle.psi_frames.proofs.OnlyText.{lane-of_one}
+use Rattle.psi_frames.proofs.RoundLaws.{one_round-bounds, requests_from-cons}
+use Rattle.psi_frames.proofs.WholeFrames.{are_spelled}
+use Rattle.psi_cli.specs.Inputs.{IsServable}
 
-abbrev HasNoCode : Request → Type 0
-HasNoCode r = r.code ≡ 0
+-- ---- requests without a code
 
--- the requests of plain frames have no code where the frames have none, and the other way round
-uncoded-requests : (p : Parameters) (asks : ℕ) (fs : List Frame) → AllByRecursion IsPlainFrame fs → AreUncoded p asks fs → AllByRecursion HasNoCode (requests_from p 0 asks fs)
-unfolding requests_from
-uncoded-requests p asks [] each h = tt
-uncoded-requests p asks (f ∷ fs) each h =
-    subst (λ (rs : List Request). AllByRecursion HasNoCode rs) (sym (requests_from-cons p 0 asks f fs each.0))
-    (h.0, uncoded-requests p (asks_behind asks f) fs each.1 h.1)
+-- of two requests, one for a code
+unless-none : (o : Option ℕ) (f : Frame) (r : Request) → code_of (unless_coded o f r) ≡ None → unless_coded o f r ≡ r
+unless-none None f r e = refl
+unless-none (Some code) f r e = absurd (cc)
 
-requests-uncoded : (p : Parameters) (asks : ℕ) (fs : List Frame) → AllByRecursion IsPlainFrame fs → AllByRecursion HasNoCode (requests_from p 0 asks fs) → AreUncoded p asks fs
-unfolding requests_from
-requests-uncoded p asks [] each h = tt
-requests-uncoded p asks (f ∷ fs) each h =
-    let at_cons = subst (λ (rs : List Request). AllByRecursion HasNoCode rs) (requests_from-cons p 0 asks f fs each.0) h in
-    (at_cons.0, requests-uncoded p (asks_behind asks f) fs each.1 at_cons.1)
+no_code : (o : Option ℕ) (f : Frame) (r : Request) → code_of (unless_coded o f r) ≡ None → o ≡ None
+no_code None f r e = refl
+no_code (Some code) f r e = absurd (cc)
 
--- frames of an input
-pub input-by : (p : Parameters) (bytes : List ℕ) (fs : List Frame) → AreFrames bytes fs → IsOneRoundAtMost fs → AreUncoded p 0 fs → IsPlainInput p bytes fs
-input-by p bytes fs are round none = record {
-  spelled = are;
-  one_round = round;
-  uncoded = All-from_recursion HasNoCode (requests_from p 0 0 fs) (uncoded-requests p 0 fs (recursion_from_All IsPlainFrame fs are.each) none);
-}
+-- a Put without a code has a label of the set's length
+put-length : (p : Parameters) (body : List ℕ) → put_code p body ≡ None → HasLabelLength p (label_of body)
+put-length p body e = by_item (has_item body) (has_label_length p (label_of body)) refl e where
+  by_item : (item label : Bool) → has_label_length p (label_of body) ≡ label → (if not item then Some 1 else (if label then None else Some 4)) ≡ None → HasLabelLength p (label_of body)
+  by_item false label is e = absurd (cc)
+  by_item true false is e = absurd (cc)
+  by_item true true is e = eqb-true (length (label_of body)) (10 * p.units) is
 
-pub uncoded-input : (p : Parameters) (bytes : List ℕ) (fs : List Frame) → IsPlainInput p bytes fs → AreUncoded p 0 fs
-uncoded-input p bytes fs h =
-    requests-uncoded p 0 fs (recursion_from_All IsPlainFrame fs h.spelled.each) (recursion_from_All HasNoCode (requests_from p 0 0 fs) h.uncoded)
+-- a query has a ciphertext for each row and power
+length-query : (p : Parameters) (body : List ℕ) → length (query_ciphertexts p body) ≡ p.rows * p.capacity
+unfolding query_ciphertexts ciphertexts_in
+length-query p body = length-map-range_with_len (ciphertext_in (drop 8 body)) 0 (powers_of p)
 
--- an input is one round without a code
-one_round-input : (p : Parameters) (bytes : List ℕ) (fs : List Frame) → IsPlainInput p bytes fs → IsOneRound p fs
-one_round-input p bytes fs h = record {
-  plain = recursion_from_All IsPlain fs (All-weaker IsPlainFrame IsPlain (λ f plain. plain.kind) fs h.spelled.each);
-  uncoded = recursion_from_All HasNoCode (requests_from p 0 0 fs) h.uncoded;
-  few = (one_round-bounds fs h.spelled.each h.one_round).0;
-  round = h.one_round;
-}
+servable-put : (p : Parameters) (f : Frame) → code_of (put_request p f) ≡ None → IsServable p (put_request p f)
+servable-put p f e =
+    let none = no_code (put_code p f.body) f _ e in
+    subst (IsServable p) (sym (unless-none (put_code p f.body) f _ e)) (put-length p f.body none)
 
--- its text is the one-lane text
-pub text-input : (p : Parameters) (bytes : List ℕ) (fs : List Frame) → IsPlainInput p bytes fs → IsOneLaneText p fs (text_of (lane_replies p (empty_version p) fs))
-text-input p bytes fs h = text-lane p fs (one_round-input p bytes fs h)
+servable-drop : (p : Parameters) (f : Frame) → code_of (drop_request f) ≡ None → IsServable p (drop_request f)
+servable-drop p f e = subst (IsServable p) (sym (unless-none (drop_code f.body) f _ e)) tt
 
--- such an input has fewer than 2^29 bytes
-pub length-input : (p : Parameters) (bytes : List ℕ) (fs : List Frame) → IsPlainInput p bytes fs → length bytes < 2 ^ 29
-length-input p bytes fs h = subst (λ (bs : List ℕ). length bs < 2 ^ 29) (sym h.spelled.whole) (one_round-bounds fs h.spelled.each h.one_round).1
+servable-ask : (p : Parameters) (f : Frame) → code_of (ask_request p f) ≡ None → IsServable p (ask_request p f)
+servable-ask p f e = subst (IsServable p) (sym (unless-none (ask_code p f.body) f _ e)) (length-query p f.body)
 
--- What is told so far and what is left are all of it, one more request on.
-pub record Serves (p : Parameters) (v : Version) (asks : ℕ) (left : List Frame) (text : List ℕ) (all : List Frame) : Type 0 where
-  pub told : text ++ text_of (lane_replies p v left) ≡ text_of (lane_replies p (empty_version p) all)
-  pub onward : AreUncoded p asks left → AreUncoded p 0 all
-  pub back : AreUncoded p 0 all → AreUncoded p asks left
+-- a frame that puts, drops or asks, without a code, is a request that is served
+pub servable-frame : (p : Parameters) (f : Frame) → IsPutDropAskFrame f → code_of (request_of p f) ≡ None → IsServable p (request_of p f)
+unfolding request_of
+servable-frame p f plain = by_kind plain.kind where
+  by_kind : (f.kind ≡ put_kind) ⊎ ((f.kind ≡ drop_kind) ⊎ (f.kind ≡ ask_kind)) → code_of (request_of p f) ≡ None → IsServable p (request_of p f)
+  by_kind (inl is) = rw is (servable-put p f)
+  by_kind (inr (inl is)) = rw is (servable-drop p f)
+  by_kind (inr (inr is)) = rw is (servable-ask p f)
 
-serves_cons : (p : Parameters) (v : Version) (asks : ℕ) (f : Frame) (fs : List Frame) (text after : List ℕ) (all : List Frame) → Serves p v asks (f ∷ fs) text all → code_of p asks f ≡ 0
-    → after ≡ text ++ reply_bytes f.session f.number (lane_reply p v f) → Serves p (lane_next v f) (asks_behind asks f) fs after all
-unfolding lane_replies
-serves_cons p v asks f fs text after all h none is = record {
-  told =
-      ap (λ (t : List ℕ). t ++ text_of (lane_replies p (lane_next v f) fs)) is
-      ∙ append_assoc text (reply_bytes f.session f.number (lane_reply p v f)) (text_of (lane_replies p (lane_next v f) fs)) ∙ h.told;
-  onward = λ rest. h.onward (none, rest);
-  back = λ whole. (h.back whole).1;
-}
+-- an Ask frame that has no code asks
+pub counted-few : (asks : ℕ) (r : Request) → nat_le 32 asks ≡ false → counted asks r ≡ r
+counted-few asks (request.Put session number tag label) few = refl
+counted-few asks (request.Drop session number tag) few = refl
+counted-few asks (request.Ask session number query) few = rw few refl
+counted-few asks (request.Repack session number row) few = refl
+counted-few asks (request.Bad session number code) few = refl
+
+-- the request of a frame that is not an Ask too many
+not_many : (p : Parameters) (f : Frame) (asks : ℕ) → IsPutDropAskFrame f → (f.kind ≡ ask_kind → nat_le 32 asks ≡ false) → counted asks (request_of p f) ≡ request_of p f
+unfolding request_of
+not_many p f asks plain few = by_kind plain.kind where
+  same_put : (o : Option ℕ) → counted asks (unless_coded o f (request.Put f.session f.number (tag_of (item_of f.body)) (label_of f.body))) ≡ unless_coded o f (request.Put f.session f.number (tag_of (item_of f.body)) (label_of f.body))
+  same_put None = refl
+  same_put (Some code) = refl
+  same_drop : (o : Option ℕ) → counted asks (unless_coded o f (request.Drop f.session f.number (tag_of (item_of f.body)))) ≡ unless_coded o f (request.Drop f.session f.number (tag_of (item_of f.body)))
+  same_drop None = refl
+  same_drop (Some code) = refl
+  by_kind : (f.kind ≡ put_kind) ⊎ ((f.kind ≡ drop_kind) ⊎ (f.kind ≡ ask_kind)) → counted asks (request_of p f) ≡ request_of p f
+  by_kind (inl is) = rw is (same_put (put_code p f.body))
+  by_kind (inr (inl is)) = rw is (same_drop (drop_code f.body))
+  by_kind (inr (inr is)) = counted-few asks (request_of p f) (few is)
+
+pub counted-plain : (p : Parameters) (f : Frame) (asks : ℕ) → IsPutDropAskFrame f → (f.kind ≡ ask_kind → asks < 32) → counted asks (request_of p f) ≡ request_of p f
+counted-plain p f asks plain few = not_many p f asks plain (λ is. let lt = few is in grind (arith, nat_tests, lt))
+
+-- an Ask too many has a code
+pub many-coded : (p : Parameters) (f : Frame) (asks : ℕ) → f.kind ≡ ask_kind → 32 ≤ asks → code_of (counted asks (request_of p f)) ≡ None → ⊥
+unfolding request_of
+many-coded p f asks is many = rw is (by_code (ask_code p f.body) (grind (arith, nat_tests, many))) where
+  by_code : (o : Option ℕ) → nat_le 32 asks ≡ true → code_of (counted asks (unless_coded o f (request.Ask f.session f.number (query_ciphertexts p f.body)))) ≡ None → ⊥
+  by_code None test = rw test (λ e. absurd (cc))
+  by_code (Some code) test = λ e. absurd (cc)
+
+-- ---- the loop over frames
+
+-- The requests so far and those of the frames that are left are all of them.
+pub record Reads (p : Parameters) (asks : ℕ) (left : List Frame) (done : List Request) (all : List Frame) : Type 0 where
+  pub told : done ++ requests_from p asks left ≡ requests_from p 0 all
 
 at_front : (all : List Frame) (i : ℕ) (f : Frame) → i < length all → f ≡ slice_index_or all i f → drop i all ≡ f ∷ drop (i + 1) all
 at_front all i f lt here = drop-cons all i f lt ∙ ap (λ (g : Frame). g ∷ drop (suc i) all) (sym here) ∙ ap (λ (n : ℕ). f ∷ drop n all) (sym (add-one i))
 
--- request number i of an input is served
-pub serves_more : (p : Parameters) (v next : Version) (asks : ℕ) (all : List Frame) (i : ℕ) (f : Frame) (text after : List ℕ) → i < length all → f ≡ slice_index_or all i f
-    → Serves p v asks (drop i all) text all → code_of p asks f ≡ 0 → next ≡ lane_next v f → after ≡ text ++ reply_bytes f.session f.number (lane_reply p v f)
-    → Serves p next (asks_behind asks f) (drop (i + 1) all) after all
-serves_more p v next asks all i f text after lt here h none is told =
-    let at_cons = subst (λ (fs : List Frame). Serves p v asks fs text all) (at_front all i f lt here) h in
-    subst (λ (w : Version). Serves p w (asks_behind asks f) (drop (i + 1) all) after all) (sym is) (serves_cons p v asks f (drop (i + 1) all) text after all at_cons none told)
+-- one frame more
+pub reads_more : (p : Parameters) (asks behind : ℕ) (all : List Frame) (i : ℕ) (f : Frame) (done after : List Request) (r : Request) → i < length all → f ≡ slice_index_or all i f → IsPutDropAskFrame f
+    → Reads p asks (drop i all) done all → r ≡ counted asks (request_of p f) → after ≡ done ++ r ∷ [] → behind ≡ asks_behind asks f → Reads p behind (drop (i + 1) all) after all
+reads_more p asks behind all i f done after r lt here plain h is grown moved = record {
+  told =
+      ap (λ (rs : List Request). rs ++ requests_from p behind (drop (i + 1) all)) grown
+      ∙ append_assoc done (r ∷ []) (requests_from p behind (drop (i + 1) all))
+      ∙ ap (λ (n : ℕ). done ++ r ∷ requests_from p n (drop (i + 1) all)) moved
+      ∙ ap (λ (q : Request). done ++ q ∷ requests_from p (asks_behind asks f) (drop (i + 1) all)) is
+      ∙ ap (λ (rs : List Request). done ++ rs) (sym (requests_from-cons p asks f (drop (i + 1) all) plain))
+      ∙ ap (λ (fs : List Frame). done ++ requests_from p asks fs) (sym (at_front all i f lt here))
+      ∙ h.told;
+}
 
--- where request number i has a code, not all have none
-pub has_code : (p : Parameters) (v : Version) (asks : ℕ) (all : List Frame) (i : ℕ) (f : Frame) (text : List ℕ) → i < length all → f ≡ slice_index_or all i f → Serves p v asks (drop i all) text all
-    → (code_of p asks f ≡ 0 → ⊥) → AreUncoded p 0 all → ⊥
-has_code p v asks all i f text lt here h never whole =
-    let at_cons : AreUncoded p asks (f ∷ drop (i + 1) all) = subst (λ (fs : List Frame). AreUncoded p asks fs) (at_front all i f lt here) (h.back whole) in
-    never at_cons.0
+-- where no frame is left, they are all
+pub reads_all : (p : Parameters) (asks : ℕ) (left : List Frame) (done : List Request) (all : List Frame) → left ≡ [] → Reads p asks left done all → done ≡ requests_from p 0 all
+unfolding requests_from
+reads_all p asks left done all none h =
+    sym (append-nil done) ∙ ap (λ (fs : List Frame). done ++ requests_from p asks fs) (sym none) ∙ h.told
 
--- where nothing is left, all is told
-pub told_all : (p : Parameters) (v : Version) (asks : ℕ) (left : List Frame) (text : List ℕ) (all : List Frame) → left ≡ [] → Serves p v asks left text all
-    → text ≡ text_of (lane_replies p (empty_version p) all)
-unfolding lane_replies
-told_all p v asks left text all none h =
-    sym (append-nil text) ∙ ap (λ (fs : List Frame). text ++ text_of (lane_replies p v fs)) (sym none) ∙ h.told
+-- where the frame's request has a code, not all have none
+pub reads_coded : (p : Parameters) (asks : ℕ) (all : List Frame) (i : ℕ) (f : Frame) (done : List Request) → i < length all → f ≡ slice_index_or all i f → IsPutDropAskFrame f
+    → Reads p asks (drop i all) done all → (code_of (counted asks (request_of p f)) ≡ None → ⊥) → All (λ r. code_of r ≡ None) (requests_from p 0 all) → ⊥
+reads_coded p asks all i f done lt here plain h never each =
+    let told : done ++ counted asks (request_of p f) ∷ requests_from p (asks_behind asks f) (drop (i + 1) all) ≡ requests_from p 0 all =
+    ap (λ (rs : List Request). done ++ rs) (sym (requests_from-cons p asks f (drop (i + 1) all) plain))
+    ∙ ap (λ (fs : List Frame). done ++ requests_from p asks fs) (sym (at_front all i f lt here)) ∙ h.told in
+    never (at_seam done (counted asks (request_of p f)) (requests_from p (asks_behind asks f) (drop (i + 1) all)) (subst (All (λ r. code_of r ≡ None)) (sym told) each)) where
+      at_seam : (xs : List Request) (r : Request) (ys : List Request) → All (λ r. code_of r ≡ None) (xs ++ r ∷ ys) → code_of r ≡ None
+      at_seam [] r ys h = h 0 r (omega arith)
+      at_seam (x ∷ xs) r ys h = at_seam xs r ys (λ k d lt. h (suc k) d (omega (arith, lt)))
 
 -- the Asks behind a frame are one more at most
 either_more : (b : Bool) (n : ℕ) → (if b then n + 1 else n) ≤ n + 1
@@ -120,41 +154,80 @@ either_more false n = omega arith
 pub asks-more : (asks : ℕ) (f : Frame) → asks_behind asks f ≤ asks + 1
 asks-more asks f = either_more (nat_eq f.kind ask_kind) asks
 
--- a request adds one to the count
-pub count-next : (v : Version) (f : Frame) → (lane_next v f).count ≡ v.count + 1
-count-next v f = count-step v (call_of f v.count)
+-- the frame at a place is one of them
+pub plain-at : (fs : List Frame) (i : ℕ) (f : Frame) → i < length fs → f ≡ slice_index_or fs i f → All IsPutDropAskFrame fs → IsPutDropAskFrame f
+plain-at fs i f lt here each = subst IsPutDropAskFrame (sym here) (each i f lt)
 
--- of two steps to one set of parameters, either way
-one_of : (b : Bool) (x y : Step) (p : Parameters) → x.version.parameters ≡ p → y.version.parameters ≡ p → (if b then x else y).version.parameters ≡ p
-one_of true x y p e f = e
-one_of false x y p e f = f
+-- ---- the loop over requests
 
--- a step keeps the parameters
-pub parameters-step : (v : Version) (c : Call) → (step v c).version.parameters ≡ v.parameters
-unfolding step
-parameters-step v (call.Put tag label) =
-    let rows = placed v.parameters (v.count + 1) (record { tag = tag; label = label }) v.rows in
-    one_of (is_some (fin.get v.labels tag)) (replace v tag label) (add v tag label rows) v.parameters refl
-    (one_of (fits v.parameters rows) (record { answer = answer.Added; version = next v (fin.insert v.labels tag label) rows })
-    (record { answer = answer.Full (planes_of v.parameters rows) (cells_of v.parameters rows); version = unchanged v }) v.parameters refl refl)
-parameters-step v (call.Drop tag) = one_of (is_some (fin.get v.labels tag)) (remove v tag) (record { answer = answer.Absent; version = unchanged v }) v.parameters refl refl
-parameters-step v call.Ask = refl
-parameters-step v (call.Repack row from) =
-    let packed = packed_row v.parameters.capacity (v.count + 1) (members_of_row (row_at v.rows row)) in
-    one_of (nat_le (greatest_stamp (row_at v.rows row)) from) (repack v row packed)
-    (record { answer = answer.Moved (greatest_stamp (row_at v.rows row)); version = unchanged v }) v.parameters refl refl
+-- What is told so far and what is left are all of it.
+pub record Serves (p : Parameters) (v : Version) (left : List Request) (text : List ℕ) (all : List Request) : Type 0 where
+  pub told : text ++ text_of (lane_replies p v left) ≡ text_of (lane_replies p (empty_version p) all)
 
-pub parameters-next : (v : Version) (f : Frame) → (lane_next v f).parameters ≡ v.parameters
-parameters-next v f = parameters-step v (call_of f v.count)
+pub serves_more : (p : Parameters) (v next : Version) (r : Request) (rs : List Request) (text after : List ℕ) (all : List Request) → Serves p v (r ∷ rs) text all → next ≡ lane_next v r
+    → after ≡ text ++ reply_bytes (session_of r) (number_of r) (lane_reply p v r) → Serves p next rs after all
+unfolding lane_replies
+serves_more p v next r rs text after all h new is =
+    subst (λ (w : Version). Serves p w rs after all) (sym new)
+    (record {
+      told =
+          ap (λ (t : List ℕ). t ++ text_of (lane_replies p (lane_next v r) rs)) is
+          ∙ append_assoc text (reply_bytes (session_of r) (number_of r) (lane_reply p v r)) (text_of (lane_replies p (lane_next v r) rs)) ∙ h.told;
+    })
+
+-- where nothing is left, all is told
+pub told_all : (p : Parameters) (v : Version) (left : List Request) (text : List ℕ) (all : List Request) → left ≡ [] → Serves p v left text all
+    → text ≡ text_of (lane_replies p (empty_version p) all)
+unfolding lane_replies
+told_all p v left text all none h =
+    sym (append-nil text) ∙ ap (λ (rs : List Request). text ++ text_of (lane_replies p v rs)) (sym none) ∙ h.told
+
+-- ---- an input's text
+
+-- the one round of some frames, or none
+abbrev pub one_round : List Frame → List (List Frame)
+one_round [] = []
+one_round (f ∷ fs) = (f ∷ fs) ∷ []
+
+one_round-requests : (p : Parameters) (fs : List Frame) → requests_of (request_rounds p (one_round fs)) ≡ requests_from p 0 fs
+unfolding requests_from
+one_round-requests p [] = refl
+one_round-requests p (f ∷ fs) = append-nil (requests_from p 0 (f ∷ fs))
+
+are_rounds : (fs : List Frame) → IsOneRoundAtMost fs → AreRounds (one_round fs) fs
+are_rounds [] round = record { all = refl; each = λ k d lt. absurd (omega arith); full = λ k lt. absurd (omega arith) }
+are_rounds (f ∷ fs) (inl none) = absurd (cc)
+are_rounds (f ∷ fs) (inr round) = record {
+  all = sym (append-nil (f ∷ fs));
+  each = All-from_recursion IsRound ((f ∷ fs) ∷ []) (round, tt);
+  full = λ k lt. absurd (omega arith);
+}
+
+-- requests without a code have none of a full journal
+none_coded : (rs : List Request) → All (λ r. code_of r ≡ None) rs → AllByRecursion HasByteCode rs
+none_coded rs each = weaker rs (recursion_from_All (λ r. code_of r ≡ None) rs each) where
+  weaker : (rs : List Request) → AllByRecursion (λ r. code_of r ≡ None) rs → AllByRecursion HasByteCode rs
+  weaker [] h = tt
+  weaker (r ∷ rs) h = ((λ code is. let none = h.0 in absurd (cc)), weaker rs h.1)
+
+-- the text of an input's replies is the one-lane text
+pub text-input : (p : Parameters) (bytes : List ℕ) (fs : List Frame) → IsOneRoundInput p bytes fs → IsOneLaneTextOf p fs (text_of (lane_replies p (empty_version p) (requests_from p 0 fs)))
+text-input p bytes fs h =
+    let rounds = request_rounds p (one_round fs) in
+    let same = one_round-requests p fs in
+    record {
+      rounds = one_round fs;
+      are_rounds = are_rounds fs h.one_round;
+      one_lane = subst (λ (rs : List Request). IsOneLaneText p (empty_version p) [] rounds (text_of (lane_replies p (empty_version p) rs))) same
+          (lane-of_one p (empty_version p) [] rounds refl tt (All-from_recursion HasByteCode (requests_of rounds) (subst (AllByRecursion HasByteCode) (sym same) (none_coded (requests_from p 0 fs) h.uncoded))));
+    }
+
+-- such an input has fewer than 2^29 bytes
+pub length-input : (p : Parameters) (bytes : List ℕ) (fs : List Frame) → IsOneRoundInput p bytes fs → length bytes < 2 ^ 29
+length-input p bytes fs h =
+    let are = are_spelled bytes fs h.spelled in
+    subst (λ (bs : List ℕ). length bs < 2 ^ 29) (sym are.whole) (one_round-bounds fs are.each h.one_round).1
 
 -- the number of an input's frames
-pub few-frames : (fs : List Frame) → All IsPlainFrame fs → IsOneRoundAtMost fs → length fs ≤ 4096
+pub few-frames : (fs : List Frame) → All IsPutDropAskFrame fs → IsOneRoundAtMost fs → length fs ≤ 4096
 few-frames fs each round = (one_round-bounds fs each round).0
-
--- a text of replies to frames that are an input without codes
-pub served-by : {E : Type 0} (p : Parameters) (bytes : List ℕ) (fs gs : List Frame) (r : Result (Vec ℕ Global) E) → gs ≡ fs → AreFrames bytes fs → IsOneRoundAtMost fs → OnOk r (AreUncoded p 0 gs)
-    → IfOk r (λ text. text.items ≡ text_of (lane_replies p (empty_version p) gs))
-    → IfOk r (λ text. (frames : List Frame) × IsPlainInput p bytes frames × (text.items ≡ text_of (lane_replies p (empty_version p) frames)))
-served-by p bytes fs gs (Ok text) same are round none told =
-    (fs, input-by p bytes fs are round (subst (λ (hs : List Frame). AreUncoded p 0 hs) same none), told ∙ ap (λ (hs : List Frame). text_of (lane_replies p (empty_version p) hs)) same)
-served-by p bytes fs gs (Err e) same are round none told = tt

@@ -6,7 +6,6 @@ mod evaluation;
 mod planes;
 #[cfg(test)]
 mod receiver_tests;
-mod requests;
 mod run;
 #[cfg(test)]
 mod run_tests;

@@ -6,12 +6,14 @@ ghost use Rattle.psi_residue.specs.Polynomials.{IsPolynomial};
 ghost use Rattle.psi_residue.specs.RootPolynomials.{root_coefficient};
 ghost use Rattle.psi_residue.specs.Slots.{packed_list};
 ghost use Rattle.bin_poly.specs.Roots.{HasRoots};
+ghost use Rattle.noise_ledger.specs.Verdicts.{parameters_of};
 ghost use Rattle.psi_bundle.specs.Bins.{bin_at, roots_of};
 ghost use Rattle.psi_bundle.specs.Planes.{one_coefficient};
 ghost use Rattle.psi_cli.specs.Evaluation.{AreWithin, IsRootPlane, IsSlotPolynomial, column};
 
 use batching::pack;
 use bin_poly::from_roots;
+use noise_ledger::Params;
 use psi_bundle::Bundle;
 use psi_residue::N;
 use std::alloc::{AllocError, Global};
@@ -20,15 +22,15 @@ use std::alloc::{AllocError, Global};
 /// capacity. No bin has more members than the capacity.
 pub fn root_plane(
     alloc: Global,
+    params: &Params,
     bundle: &Bundle,
-    capacity: u16,
 ) -> Result<Vec<Vec<u32>>, AllocError>
-    requires within { AreWithin capacity bundle.now }
-    ensures { IfOk result (λ plane. IsRootPlane capacity bundle.now (map (λ v. v.items) plane.items)) }
+    requires within { AreWithin params.now.capacity bundle.now }
+    ensures { IfOk result (λ plane. IsRootPlane (parameters_of params.now) bundle.now (map (λ v. v.items) plane.items)) }
 {
     let mut plane = Vec::with_capacity(alloc, N)?;
     for slot in 0..N {
-        plane.push(slot_polynomial(alloc, bundle, capacity, slot as u16)?)?;
+        plane.push(slot_polynomial(alloc, params, bundle, slot as u16)?)?;
     }
     Ok(plane)
 }
@@ -36,18 +38,24 @@ pub fn root_plane(
 // The polynomial of a slot. The last one is the constant 1.
 fn slot_polynomial(
     alloc: Global,
+    params: &Params,
     bundle: &Bundle,
-    capacity: u16,
     slot: u16,
 ) -> Result<Vec<u32>, AllocError>
     requires in_range { slot < ring_degree }
-    requires within { AreWithin capacity bundle.now }
-    ensures { IfOk result (λ v. IsSlotPolynomial capacity bundle.now slot v.items) }
+    requires within { AreWithin params.now.capacity bundle.now }
+    ensures { IfOk result (λ v. IsSlotPolynomial (parameters_of params.now) bundle.now slot v.items) }
 {
     if slot < 4095 {
-        roots_polynomial(alloc, bundle, capacity, slot / 5, (slot % 5) as u8)
+        roots_polynomial(
+            alloc,
+            bundle,
+            params.capacity,
+            slot / 5,
+            (slot % 5) as u8,
+        )
     } else {
-        one_polynomial(alloc, capacity)
+        one_polynomial(alloc, params.capacity)
     }
 }
 

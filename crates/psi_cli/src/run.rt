@@ -7,7 +7,10 @@ ghost use Rattle.noise_ledger.specs.Verdicts.{ArePassed, parameters_of};
 ghost use Rattle.psi_residue.specs.Parameters.{Parameters};
 ghost use Rattle.psi_cli.specs.declared.status.Status.TheVariants.{Parameters as Refused};
 ghost use Rattle.psi_cli.specs.Inputs.{serve_parameters};
-ghost use Rattle.psi_cli.specs.Runs.{AsksFor, Leaves, GivesUp, IsAnswered, IsAnsweredBy, IsNoInput, status_of_read, status_of_fault};
+ghost use Rattle.psi_frames.specs.declared.frame.Frame.{Frame};
+ghost use Rattle.psi_frames.specs.Inputs.{IsOneRoundInput};
+ghost use Rattle.psi_cli.specs.Leaving.{GivesUp, IsStatus, Leaves, status_of_fault, status_of_read};
+ghost use Rattle.psi_cli.specs.Runs.{AsksFor, IsAnswered, IsAnsweredBy, IsNoInput};
 
 use crate::serve::{ServeFault, replies_to};
 use crate::status::Status;
@@ -45,6 +48,7 @@ pub fn psi_run<R: Threads + Wait + Sync, S: Source, F: Files, K: Sink, G: Gate>(
     output: &mut K,
     _gate: &G,
 ) -> u8
+    ensures statuses { IsStatus result }
     ensures words { (result ≡ 2) ↔ ((p : Parameters) → AsksFor (map string_bytes words.now) p → ⊥) }
     ensures refused { (result ≡ 3) ↔ ((p : Parameters) × AsksFor (map string_bytes words.now) p × (ArePassed p → ⊥)) }
 
@@ -56,12 +60,14 @@ pub fn psi_run<R: Threads + Wait + Sync, S: Source, F: Files, K: Sink, G: Gate>(
     // When each other status comes, and when it doesn't.
     ensures bad { (p : Parameters) → AsksFor (map string_bytes words.now) p → result ≡ 4 → IfSome (S.left input.old) (IsNoInput p) }
     ensures bad_only { (p : Parameters) → AsksFor (map string_bytes words.now) p → ArePassed p → IfSome (S.left input.old) (λ bytes. IsNoInput p bytes → (result ≡ 4) ⊎ ((result ≡ 5) ⊎ (result ≡ 7))) }
-    ensures complete { (p : Parameters) → AsksFor (map string_bytes words.now) p → ArePassed p → IfSome (S.left input.old) (λ bytes. (text : List ℕ) → IsAnswered p bytes text → (result ≡ 0) ⊎ ((result ≡ 5) ⊎ ((result ≡ 6) ⊎ (result ≡ 7)))) }
+    ensures complete { (p : Parameters) → AsksFor (map string_bytes words.now) p → ArePassed p → IfSome (S.left input.old) (λ bytes. (frames : List Frame) → IsOneRoundInput p bytes frames → (result ≡ 0) ⊎ ((result ≡ 5) ⊎ ((result ≡ 6) ⊎ (result ≡ 7)))) }
     ensures no_read_failed { (result ≡ 0) ⊎ (result ≡ 4) → S.faults input.new ≡ S.faults input.old }
+    ensures no_write_failed { result ≡ 0 → K.faults output.new ≡ K.faults output.old }
     ensures read { result ≡ 5 → Rose (S.faults input.old) (S.faults input.new) }
     ensures write { result ≡ 6 → Rose (K.faults output.old) (K.faults output.new) }
 
-    // What was written.
+    // What was read and written.
+    ensures unread { (result ≡ 2) ⊎ (result ≡ 3) → (S.left input.new ≡ S.left input.old) × (S.faults input.new ≡ S.faults input.old) }
     ensures unwritten { (result ≡ 2) ⊎ ((result ≡ 3) ⊎ ((result ≡ 4) ⊎ ((result ≡ 5) ⊎ (result ≡ 7)))) → K.written output.new ≡ K.written output.old }
     ensures front { result ≡ 6 → IfSome (S.left input.old) (λ bytes. (text : List ℕ) × IsAnsweredBy (map string_bytes words.now) bytes text × ((n : ℕ) × Appends (K.written output.old) (K.written output.new) (take n text))) }
 {

@@ -1,9 +1,9 @@
 //! How a run ends.
 ghost use Rattle.std.specs.Prelude.{◌≡◌};
-ghost use Rattle.psi_cli.specs.Runs.{number_of};
+ghost use Rattle.psi_cli.specs.Leaving.{line_of, number_of};
 
 /// How a run of the program ends.
-#[derive(Clone, Copy, Debug, PartialEq, Eq)]
+#[derive(Clone, Copy)]
 pub enum Status {
     /// All was done.
     Done,
@@ -39,7 +39,9 @@ impl Status {
 }
 
 /// The line on standard error for a status number, without its end; empty where there is none.
-pub fn status_line(status: u8) -> &'static str {
+pub fn status_line(status: u8) -> &'static str
+    ensures { result.now ≡ line_of status }
+{
     match status {
         2 => "psi: words not understood",
         3 => "psi: parameters refused",

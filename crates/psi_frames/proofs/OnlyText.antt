@@ -21,7 +21,7 @@ use Rattle.psi_frames.specs.declared.request.Request.{Request}
 use Rattle.psi_frames.specs.declared.request.Request.TheVariants as request
 use Rattle.psi_frames.specs.Requests.{call_of, code_of, is_repack, journal_full, number_of, query_of, session_of}
 use Rattle.psi_frames.specs.Served.{Exchange, Sent, exchanges, requests_of, text_of, place_of, from_of, from_or_zero, answer_of, body_of, all_places, entry_of, address_of_reply, address_of_request, journal_limit, AreServed, HasPlaceOrIsFull, IsEvaluated, IsOneLane, IsOneLaneText, IsRecorded, StaysFull}
-use Rattle.psi_frames.specs.OneLane.{HasByteCode, OneTextIsOfOneLane, call_on, entries_by, lane_next, lane_replies, lane_reply, reply_by, reply_of, version_by}
+use Rattle.psi_frames.specs.OneLane.{HasByteCode, LaneRepliesAreOfOneLane, OneTextIsOfOneLane, call_on, entries_by, lane_next, lane_replies, lane_reply, reply_by, reply_of, version_by}
 use Rattle.psi_frames.proofs.Each.{each-append, each-weaker}
 use Rattle.psi_frames.proofs.Turns.{Turned, turned, count-behind, place-reply}
 use Rattle.psi_frames.proofs.Lanes.{paired, seconds}
@@ -288,3 +288,8 @@ one-text p start given rounds none_yet legal bytes =
         (other.served.one_each ∙ ap (map address_of_request) (sym (seconds-numbered 0 rounds))) in
         other.text_is ∙ ap text_of (same_sents ∙ ap (lane_replies p begun) (seconds-numbered 0 rounds)),
     )
+
+pub lane-of_one : LaneRepliesAreOfOneLane
+lane-of_one p start given rounds none_yet legal bytes =
+    let each = bytes-seconds (numbered_from 0 rounds) (subst (AllByRecursion HasByteCode) (sym (seconds-numbered 0 rounds)) (recursion_from_All HasByteCode (requests_of rounds) bytes)) in
+    lane-text p start given rounds none_yet legal each

@@ -8,13 +8,13 @@ use Rattle.psi_bundle.specs.declared.history.Call.{Call}
 use Rattle.psi_bundle.specs.declared.history.Entry.{Entry}
 use Rattle.psi_bundle.specs.Versions.{Version}
 use Rattle.psi_bundle.specs.Steps.{step}
-use Rattle.psi_bundle.specs.Histories.{IsLegal}
+use Rattle.psi_bundle.specs.Histories.{IsLegal, replay}
 use Rattle.query_codec.specs.Replies.{reply_body}
 use Rattle.psi_frames.specs.declared.reply.Reply.{Reply}
 use Rattle.psi_frames.specs.declared.reply.Reply.TheVariants as reply
 use Rattle.psi_frames.specs.declared.request.Request.{Request}
 use Rattle.psi_frames.specs.Requests.{call_of, code_of, query_of, session_of, number_of, journal_full}
-use Rattle.psi_frames.specs.Served.{Sent, IsOneLaneText, journal_limit, requests_of}
+use Rattle.psi_frames.specs.Served.{Sent, IsOneLaneText, journal_limit, requests_of, text_of}
 
 -- the reply that tells an answer at a place; a query's body is told with Seen, and a Repack's `from` is its place
 abbrev pub reply_of : Answer → (place : ℕ) → (body : List ℕ) → Reply
@@ -83,3 +83,10 @@ OneTextIsOfOneLane =
     (p : Parameters) (start : Version) (given : List Entry) (rounds : List (List Request))
     → start.count ≡ 0 → IsLegal start given → All HasByteCode (requests_of rounds)
     → (text : List ℕ) × IsOneLaneText p start given rounds text × ((other : List ℕ) → IsOneLaneText p start given rounds other → other ≡ text)
+
+-- The text of the one-thread sender's replies is that one.
+abbrev pub LaneRepliesAreOfOneLane : Type 0
+LaneRepliesAreOfOneLane =
+    (p : Parameters) (start : Version) (given : List Entry) (rounds : List (List Request))
+    → start.count ≡ 0 → IsLegal start given → All HasByteCode (requests_of rounds)
+    → IsOneLaneText p start given rounds (text_of (lane_replies p (replay start given) (requests_of rounds)))

@@ -1,7 +1,7 @@
 use Rattle.std.proofs.Common.{ℕ, List, map, ap, ◌∙◌}
 use Rattle.std.specs.Prelude.{string_bytes}
-use Rattle.psi_cli.specs.Runs.{Ends, number_of}
-use Rattle.psi_cli.proofs.Ends.{words-asked, words-others, refused-asked, refused-others, bad-asked, complete-asked}
+use Rattle.psi_cli.specs.Leaving.{Ends, number_of}
+use Rattle.psi_cli.proofs.Ends.{words-asked, words-others, refused-asked, refused-others, bad-asked, complete-asked, number-is, unread-by}
 use Rattle.psi_cli.proofs.run.psi_run.Goals as goal
 use Rattle.psi_cli.proofs.run.psi_run.Goals.{in-Some, in-None}
 
@@ -48,3 +48,6 @@ returns-clause-complete g c = λ p asked passed.
           complete-asked words w.in-Some.capacity old new w.serve-status.result c.number.result (c.number.ensures ∙ ap number_of w.status-is) w.in-Some.ensures.some w.serve-status.ensures.leaves p asked passed
       | in-None w ↦ absurd (w.in-None.ensures.none asked.capacity asked.serve)
     ]
+
+pub returns-clause-statuses : goal.returns-clause-statuses
+returns-clause-statuses g c = number-is c.match-serve_capacity.status c.number.result c.number.ensures

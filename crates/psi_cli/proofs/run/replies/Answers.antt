@@ -1,7 +1,7 @@
 use Rattle.std.proofs.Common.{ℕ, List, sym, subst}
 use Rattle.noise_ledger.specs.Verdicts.{parameters_of}
 use Rattle.psi_cli.specs.declared.status.Status.{Status}
-use Rattle.psi_cli.specs.Runs.{GivesUp}
+use Rattle.psi_cli.specs.Leaving.{GivesUp}
 use Rattle.psi_cli.proofs.Ends.{answered-left, read-gives_up, IsServedText}
 use Rattle.psi_cli.proofs.run.replies.Goals as goal
 

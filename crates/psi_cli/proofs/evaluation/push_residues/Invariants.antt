@@ -1,6 +1,0 @@
-use Rattle.std.proofs.Common.{◌≡◌, ◌++◌, take}
-use Rattle.psi_bundle.specs.Bodies.{residue_bytes}
-use Rattle.psi_cli.proofs.evaluation.push_residues.Given as goal
-
-abbrev pub invariant-loop-residue : goal.invariant-loop-residue
-invariant-loop-residue l = l.text.items ≡ l.fn.text.items ++ residue_bytes (take l.residue-index l.residues)
