@@ -1,10 +1,10 @@
 -- A shelf's places: what giving and taking make of them.
-use Rattle.std.proofs.Common.{◌≡◌, ℕ, zero, suc, ◌+◌, ◌-◌, ◌<◌, ◌≤◌, Option, Some, None, List, [], ◌∷◌, ◌++◌, length, map, replicate, take, get_or, set, length-append, refl, sym, ap, subst, ◌∙◌, arith}
+use Rattle.std.proofs.Common.{◌≡◌, ℕ, zero, suc, ◌+◌, ◌-◌, ◌<◌, ◌≤◌, Option, Some, None, List, [], ◌∷◌, ◌++◌, length, map, replicate, get_or, set, length-append, refl, sym, ap, subst, ◌∙◌, arith}
 use Rattle.std.proofs.lemmas.List.{get_or_append_left}
 use Rattle.std.proofs.lemmas.List.Elements.{All-append}
 use Rattle.std.specs.List.{All}
 use Rattle.row_block.specs.Rows.{Block}
-use Rattle.row_block.specs.Shelves.{IsShelf, shelf_room}
+use Rattle.row_block.specs.Shelves.{IsShelf}
 use Rattle.row_block.specs.Places.{blocks_in, filled, kept_in, IsStacked}
 use Rattle.row_block.specs.declared.shelf.Shelf.TheInside.{Inside}
 
