@@ -1,7 +1,4 @@
-use Rattle.std.proofs.Common.{◌≡◌, ◌-◌, ◌∷◌, [], ◌++◌, Option, None, Some, set, ap, sym, subst, refl, ◌∙◌, List, arith}
-use Rattle.std.specs.Option.{MatchOption, IfSome}
-use Rattle.row_block.specs.Rows.{Block}
-use Rattle.row_block.specs.Places.{kept_in}
+use Rattle.std.proofs.Common.{◌-◌, set, sym, ◌∙◌, arith}
 use Rattle.row_block.proofs.Stacks.{takes, Taken}
 use Rattle.row_block.proofs.shelf.Shelf.take.Goals as goal
 
