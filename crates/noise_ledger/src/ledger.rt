@@ -30,7 +30,7 @@ pub struct Ledger {
 }
 
 /// Why parameters are refused.
-#[derive(Clone, Copy, Debug, PartialEq, Eq)]
+#[derive(Clone, Copy, PartialEq, Eq)]
 pub enum ParamFault {
     /// A field has a value that is not allowed.
     Range {

@@ -7,9 +7,10 @@ use Rattle.psi_frames.specs.declared.frame.Frame.{Frame}
 use Rattle.psi_frames.specs.Inputs.{IsPlainInput}
 use Rattle.psi_frames.specs.OneLane.{lane_replies}
 use Rattle.psi_frames.specs.Served.{text_of, IsOneLaneText}
-use Rattle.psi_cli.specs.declared.reading.ReadEnd.{ReadEnd}
-use Rattle.psi_cli.specs.declared.reading.ReadEnd.TheVariants as end
-use Rattle.psi_cli.specs.Reading.{IsLonger, IsReadCounted}
+use Rattle.psi_outside.specs.declared.faults.ReadFault.{ReadFault}
+use Rattle.psi_outside.specs.declared.faults.ReadFault.TheVariants as read
+use Rattle.psi_outside.specs.Causes.{count_on, Rose}
+use Rattle.psi_outside.specs.Reading.{IsLonger, IsReadCounted}
 use Rattle.std.specs.Str.Parse.{digits_value}
 use Rattle.psi_cli.specs.Inputs.{serve_parameters}
 use Rattle.psi_cli.specs.Words.{IsServe, serve_words}
@@ -17,7 +18,7 @@ use Rattle.std.specs.Io.KnownBytes.{Appends}
 use Rattle.noise_ledger.specs.Verdicts.{ArePassed}
 use Rattle.psi_cli.specs.declared.status.Status.{Status}
 use Rattle.psi_cli.specs.declared.status.Status.TheVariants as status
-use Rattle.psi_cli.specs.Runs.{AsksFor, Ends, IsAnswered, IsNoInput, GivesUp, Leaves, number_of, status_of_end}
+use Rattle.psi_cli.specs.Runs.{AsksFor, Ends, IsAnswered, IsNoInput, GivesUp, Leaves, number_of, status_of_read}
 use Rattle.psi_cli.proofs.Served.{text-input, length-input}
 
 -- what serving says of its text
@@ -41,11 +42,15 @@ longer : (p : Parameters) (left : Option (List ℕ)) → IfSome left (λ bytes. 
 longer p None h = tt
 longer p (Some bytes) h = λ frames input. let short = length-input p bytes frames input in absurd (omega arith)
 
+-- a count that went up by one rose
+rose-once : (before now : ℕ) → now ≡ count_on before → Rose before now
+rose-once before now e = omega arith
+
 -- a source that was not read to its end gives up the run
-pub end-gives_up : (p : Parameters) (left : Option (List ℕ)) (before now : ℕ) (e : ReadEnd) → IsLonger left e → IsReadCounted before now e → GivesUp p left before now (status_of_end e)
-end-gives_up p left before now end.Failed far counted = counted
-end-gives_up p left before now end.TooLong far counted = record { bad = longer p left far; no_read_failed = counted }
-end-gives_up p left before now end.NoMemory far counted = tt
+pub read-gives_up : (p : Parameters) (left : Option (List ℕ)) (before now : ℕ) (fault : ReadFault) → IsLonger (2 ^ 29) left fault → IsReadCounted before now fault → GivesUp p left before now (status_of_read fault)
+read-gives_up p left before now read.Failed far counted = rose-once before now counted
+read-gives_up p left before now read.TooLong far counted = record { bad = longer p left far; no_read_failed = counted }
+read-gives_up p left before now read.NoMemory far counted = tt
 
 -- words ask for one capacity alone
 pub asks-one : (words : List (List ℕ)) (a b : ℕ) → IsServe words a → IsServe words b → a ≡ b

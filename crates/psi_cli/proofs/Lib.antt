@@ -3,7 +3,6 @@ pub mod Calls
 pub mod Ends
 pub mod Evaluated
 pub mod Lengths
-pub mod Pieces
 pub mod ReplyTexts
 pub mod RootPlanes
 pub mod Served

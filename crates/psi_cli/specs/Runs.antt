@@ -1,14 +1,14 @@
 -- What a run of the command `serve 1 CAPACITY 0 1 0` leaves of its source and its sink, by its status.
 use Rattle.std.specs.Prelude.{◌≡◌, ℕ, List, [], take, Option, Some, IfSome, ⊤}
 use Rattle.std.specs.Io.KnownBytes.{Appends}
+use Rattle.psi_outside.specs.declared.faults.ReadFault.{ReadFault}
+use Rattle.psi_outside.specs.declared.faults.ReadFault.TheVariants as read
 use Rattle.psi_outside.specs.Causes.{Rose}
 use Rattle.psi_outside.specs.Streams.{IsAllFlushed}
 use Rattle.psi_frames.specs.declared.frame.Frame.{Frame}
 use Rattle.psi_frames.specs.Served.{IsOneLaneText}
 use Rattle.psi_cli.specs.declared.status.Status.{Status}
 use Rattle.psi_cli.specs.declared.status.Status.TheVariants as status
-use Rattle.psi_cli.specs.declared.reading.ReadEnd.{ReadEnd}
-use Rattle.psi_cli.specs.declared.reading.ReadEnd.TheVariants as end
 use Rattle.psi_cli.specs.declared.serve.ServeFault.{ServeFault}
 use Rattle.psi_cli.specs.declared.serve.ServeFault.TheVariants as fault
 use Rattle.psi_residue.specs.Parameters.{Parameters}
@@ -102,10 +102,10 @@ number_of status.WriteFault = 6
 number_of status.NoMemory = 7
 
 -- the status of a run whose source was not read to its end, and of one whose input was not served
-abbrev pub status_of_end : ReadEnd → Status
-status_of_end end.Failed = status.ReadFault
-status_of_end end.TooLong = status.BadInput
-status_of_end end.NoMemory = status.NoMemory
+abbrev pub status_of_read : ReadFault → Status
+status_of_read read.Failed = status.ReadFault
+status_of_read read.TooLong = status.BadInput
+status_of_read read.NoMemory = status.NoMemory
 
 abbrev pub status_of_fault : ServeFault → Status
 status_of_fault fault.BadInput = status.BadInput

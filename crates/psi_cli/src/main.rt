@@ -4,7 +4,6 @@
 mod answers;
 mod evaluation;
 mod planes;
-mod reading;
 #[cfg(test)]
 mod receiver_tests;
 mod requests;
@@ -16,7 +15,6 @@ mod status;
 #[cfg(test)]
 mod tests;
 mod words;
-mod writing;
 
 use psi_outside::{DiskFiles, Open, ReaderSource, WriterSink};
 use run::psi_run;

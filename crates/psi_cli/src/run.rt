@@ -7,18 +7,19 @@ ghost use Rattle.noise_ledger.specs.Verdicts.{ArePassed, parameters_of};
 ghost use Rattle.psi_residue.specs.Parameters.{Parameters};
 ghost use Rattle.psi_cli.specs.declared.status.Status.TheVariants.{Parameters as Refused};
 ghost use Rattle.psi_cli.specs.Inputs.{serve_parameters};
-ghost use Rattle.psi_cli.specs.Runs.{AsksFor, Leaves, GivesUp, IsAnswered, IsAnsweredBy, IsNoInput, status_of_end, status_of_fault};
+ghost use Rattle.psi_cli.specs.Runs.{AsksFor, Leaves, GivesUp, IsAnswered, IsAnsweredBy, IsNoInput, status_of_read, status_of_fault};
 
-use crate::reading::{ReadEnd, read_all};
 use crate::serve::{ServeFault, replies_to};
 use crate::status::Status;
 use crate::words::serve_capacity;
-use crate::writing::write_all;
 use noise_ledger::{Params, check};
-use psi_outside::{Files, Gate, Sink, Source};
+use psi_outside::{Files, Gate, ReadFault, Sink, Source, read_all, write_all};
 use std::alloc::Global;
 use std::sync::Wait;
 use std::thread::Threads;
+
+// The most bytes that are read: 512 MiB, which is more than one round can have.
+const LIMIT: usize = 536870912;
 
 /// All that the program does: it takes the words of the command line, without the program's name, and the
 /// source, files, sink and gate that are handed in, and answers the status.
@@ -115,23 +116,23 @@ fn replies<S: Source>(alloc: Global, params: &Params, input: &mut S) -> Result<V
     ensures no_read_failed { OnOk result (S.faults input.new ≡ S.faults input.old) }
     ensures fault { IfErr result (GivesUp (parameters_of params.now) (S.left input.old) (S.faults input.old) (S.faults input.new)) }
 {
-    match read_all(alloc, input) {
+    match read_all(alloc, input, LIMIT) {
         Ok(bytes) => match replies_to(alloc, params, &bytes) {
             Ok(text) => Ok(text),
             Err(fault) => Err(status_of_fault(fault)),
         },
-        Err(end) => Err(status_of_end(end)),
+        Err(fault) => Err(status_of_read(fault)),
     }
 }
 
 // The status of a run whose source was not read to its end.
-fn status_of_end(end: ReadEnd) -> Status
-    ensures { result ≡ status_of_end end }
+fn status_of_read(fault: ReadFault) -> Status
+    ensures { result ≡ status_of_read fault }
 {
-    match end {
-        ReadEnd::Failed => Status::ReadFault,
-        ReadEnd::TooLong => Status::BadInput,
-        ReadEnd::NoMemory => Status::NoMemory,
+    match fault {
+        ReadFault::Failed => Status::ReadFault,
+        ReadFault::TooLong => Status::BadInput,
+        ReadFault::NoMemory => Status::NoMemory,
     }
 }
 

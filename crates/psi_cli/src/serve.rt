@@ -21,7 +21,7 @@ use sender_core::Book;
 use std::alloc::{AllocError, Global};
 
 /// Why an input was not served.
-#[derive(Clone, Copy, Debug, PartialEq, Eq)]
+#[derive(Clone, Copy, PartialEq, Eq)]
 pub enum ServeFault {
     /// It is no input of this program.
     BadInput,

@@ -1,10 +1,7 @@
-//! The words, reading, writing and requests.
-use crate::reading::{ReadEnd, read_all};
+//! The words and the requests.
 use crate::requests::{drop_code, item, label, put_code};
 use crate::words::serve_capacity;
-use crate::writing::write_all;
 use noise_ledger::Params;
-use psi_outside::{Failed, MemorySink, MemorySource};
 use std::alloc::{AllocError, Global};
 use std::test::Fail;
 
@@ -40,30 +37,6 @@ fn one_command_is_served(rt: HostRuntime) -> Result<(), Fail> {
     assert_eq!(rt; serve_capacity(&long), None);
     let workers = strings(alloc, &["serve", "1", "1", "0", "2", "0"])?;
     assert_eq!(rt; serve_capacity(&workers), None);
-    Ok(())
-}
-
-#[test]
-fn sources_are_read_to_their_end(rt: HostRuntime) -> Result<(), Fail> {
-    let alloc = rt.alloc();
-    let mut pieces = MemorySource::open(b"abcde".to_vec(alloc)?, 2, Vec::new(alloc));
-    assert_eq!(rt;
-        read_all(alloc, &mut pieces)?.as_slice(),
-        b"abcde".as_slice()
-    );
-    let mut failing = MemorySource::open(b"abcde".to_vec(alloc)?, 2, [1].to_vec(alloc)?);
-    assert_eq!(rt; read_all(alloc, &mut failing), Err(ReadEnd::Failed));
-    Ok(())
-}
-
-#[test]
-fn texts_are_written_and_flushed(rt: HostRuntime) -> Result<(), Fail> {
-    let alloc = rt.alloc();
-    let mut sink = MemorySink::open(alloc, 8, [2].to_vec(alloc)?)?;
-    assert_eq!(rt; write_all(&mut sink, b"abc"), Ok(()));
-    assert_eq!(rt; write_all(&mut sink, b"de"), Err(Failed));
-    assert_eq!(rt; write_all(&mut sink, b""), Ok(()));
-    assert_eq!(rt; sink.bytes(), b"abc".as_slice());
     Ok(())
 }
 

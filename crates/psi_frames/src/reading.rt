@@ -15,7 +15,7 @@ use std::alloc::{AllocError, Global};
 const BEFORE_BODY: usize = 4 + HEAD_BYTES;
 
 /// Why an input was not read.
-#[derive(Clone, Copy, PartialEq, Eq, Debug)]
+#[derive(Clone, Copy, PartialEq, Eq)]
 pub enum FramesFault {
     /// The bytes are no list of whole frames that put, drop or ask.
     Bad,
@@ -107,17 +107,22 @@ mod tests {
 
     const PUT_OF_ABC: &[u8] = b"\x00\x00\x00\x0b\x01\x00\x01\x00\x00\x00\x01\x03abc";
 
+    // The frames of the bytes, which have some.
+    fn frames_of(alloc: Global, bytes: &[u8]) -> Result<Vec<Frame>, &'static str> {
+        whole_frames(alloc, bytes).map_err(|_| "no frames")
+    }
+
     #[test]
     fn reads_frames(rt: HostRuntime) -> Result<(), Fail> {
-        let none = whole_frames(rt.alloc(), b"")?;
+        let none = frames_of(rt.alloc(), b"")?;
         assert_eq!(rt; none.len(), 0);
-        let one = whole_frames(rt.alloc(), PUT_OF_ABC)?;
+        let one = frames_of(rt.alloc(), PUT_OF_ABC)?;
         assert_eq!(rt; one.len(), 1);
-        let drop = whole_frames(
+        let drop = frames_of(
             rt.alloc(),
             b"\x00\x00\x00\x0b\x02\x00\x01\x00\x00\x00\x02\x03abc",
         )?;
-        let two = whole_frames(
+        let two = frames_of(
             rt.alloc(),
             b"\x00\x00\x00\x0b\x01\x00\x01\x00\x00\x00\x01\x03abc\x00\x00\x00\x07\x03\x02\x03\x04\x05\x06\x07",
         )?;

@@ -1,5 +1,6 @@
 pub mod Causes
 pub mod Streams
+pub mod Reading
 pub mod Names
 pub mod Plans
 pub mod InMemory

@@ -1,10 +1,11 @@
-ghost use Rattle.std.specs.Prelude.{◌≡◌, ◌<◌, ◌≤◌, ◌^◌, length, None, IfOk, IfErr, IfSome, IsErrOf};
+ghost use Rattle.std.specs.Prelude.{◌≡◌, ◌<◌, ◌≤◌, ◌^◌, length, None, IfOk, IfErr, IfSome, OnErr, IsErrOf};
 ghost use Rattle.psi_outside.specs.Adapters.{disk_faults};
 ghost use Rattle.psi_outside.specs.Names.{CarriesLimit};
 
 use crate::{Failed, FileFault, Files};
 use std::alloc::Global;
 use std::fs::File;
+use std::io;
 use std::io::{ErrorKind, Read};
 use std::rt::Files as Disk;
 
@@ -30,7 +31,7 @@ impl<'r, R: Disk> Files for DiskFiles<'r, R> {
     ghost faults = { λ s. disk_faults s };
 
     fn read_file(&mut self, alloc: Global, name: &str, max: u64) -> Result<Vec<u8>, FileFault> {
-        let answer = read_whole(self.rt, alloc, name, max);
+        let answer = read_opened(File::open(self.rt, name), alloc, max);
         if let Err(FileFault::Failed) = &answer {
             self.faults = self.faults.saturating_add(1);
         }
@@ -38,16 +39,22 @@ impl<'r, R: Disk> Files for DiskFiles<'r, R> {
     }
 }
 
-// Opens the file and reads it to its end.
-fn read_whole<R: Disk>(rt: &R, alloc: Global, name: &str, max: u64) -> Result<Vec<u8>, FileFault>
+// Reads a file that was opened to its end. One that could not be opened is `Failed`.
+pub(crate) fn read_opened<R: Read + Drop>(
+    opened: io::Result<R>,
+    alloc: Global,
+    max: u64,
+) -> Result<Vec<u8>, FileFault>
     requires { max < 2 ^ 40 }
+    ensures unopened { OnErr opened (IsErrOf result FileFault.Failed) }
+    ensures bytes { IfOk opened (λ reader. IfOk result (λ bytes. IfSome (R.remaining reader) (λ left. left ≡ bytes.items))) }
     ensures bound { IfOk result (λ bytes. length bytes.items ≤ max) }
     ensures limit { IfErr result (CarriesLimit max) }
 {
-    match File::open(rt, name) {
-        Ok(file) => read_at_most(file, alloc, max),
-        Err(_) => Err(FileFault::Failed),
-    }
+    let Ok(reader) = opened else {
+        return Err(FileFault::Failed);
+    };
+    read_at_most(reader, alloc, max)
 }
 
 // Reads to the end, but no more than one byte past `max`.

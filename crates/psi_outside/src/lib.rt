@@ -1,6 +1,7 @@
 //! The traits by which the product meets the outside, each with a count of faults: a source and a sink of bytes, files
 //! that are read whole, and a gate that threads pass. Beside each stand an object in memory, which fails when it is
-//! told to, and an adapter over std.
+//! told to, and an adapter over std. Over any source and sink, `read_all` reads to the end and `write_all` writes a
+//! whole text.
 #![tactic(auto)]
 
 mod disk_files;
@@ -12,20 +13,24 @@ mod memory_sink;
 mod memory_source;
 mod plan;
 mod reader_source;
+mod reading;
 mod sink;
 mod source;
 #[cfg(test)]
 mod tests;
 mod writer_sink;
+mod writing;
 
 pub use disk_files::DiskFiles;
-pub use faults::{Failed, FileFault};
+pub use faults::{Failed, FileFault, ReadFault};
 pub use files::Files;
 pub use gate::{Gate, Open, Point};
 pub use memory_files::MemoryFiles;
 pub use memory_sink::MemorySink;
 pub use memory_source::MemorySource;
 pub use reader_source::ReaderSource;
+pub use reading::read_all;
 pub use sink::Sink;
 pub use source::Source;
 pub use writer_sink::WriterSink;
+pub use writing::write_all;

@@ -25,7 +25,7 @@ impl Model for MemoryFiles {
 }
 
 impl MemoryFiles {
-    /// Files of these names and bytes. A read fails if its number, from 0, is in `fails`.
+    /// Files of these names, which differ, and bytes. A read fails if its number, from 0, is in `fails`.
     pub fn open(files: Vec<(String, Vec<u8>)>, fails: Vec<u64>) -> MemoryFiles
         requires { DifferInName (file_entries files.items) }
         ensures files { result.entries ≡ file_entries files.items }

@@ -30,8 +30,8 @@ impl Model for MemorySink {
 }
 
 impl MemorySink {
-    /// An empty sink with room for `room` bytes, which it takes at once. A call fails if its number, from 0, is in
-    /// `fails`, where writes and flushes are counted together.
+    /// An empty sink with room for `room` bytes, at most 2^30, which it takes at once. A call fails if its number, from
+    /// 0, is in `fails`, where writes and flushes are counted together.
     pub fn open(alloc: Global, room: u64, fails: Vec<u64>) -> Result<MemorySink, AllocError>
         requires { room ≤ 2 ^ 30 }
         ensures written { IfOk result (λ sink. sink.written ≡ []) }

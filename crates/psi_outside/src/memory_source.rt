@@ -30,7 +30,8 @@ impl Model for MemorySource {
 }
 
 impl MemorySource {
-    /// A source of these bytes. A read gives at most `piece` of them, and fails if its number, from 0, is in `fails`.
+    /// A source of these bytes. A read gives at most `piece` of them, which is at least 1, and fails if its number, from
+    /// 0, is in `fails`.
     pub fn open(bytes: Vec<u8>, piece: usize, fails: Vec<u64>) -> MemorySource
         requires { 1 ≤ piece }
         ensures left { result.left ≡ bytes.items }

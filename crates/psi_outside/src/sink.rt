@@ -20,7 +20,7 @@ pub trait Sink {
     /// How many writes and flushes have failed. It stands still at the last number of 64 bits.
     ghost faults: { Self → ℕ };
 
-    /// Appends the first bytes of `piece` and answers how many these are, one at least.
+    /// Appends the first bytes of `piece`, which is not empty, and answers how many these are, one at least.
     ///
     /// A sink that takes nothing answers `Failed`. After `Failed` nothing was appended.
     fn write(&mut self, piece: &[u8]) -> Result<usize, Failed>

@@ -18,7 +18,7 @@ pub trait Source {
     /// How many reads have failed. It stands still at the last number of 64 bits.
     ghost faults: { Self → ℕ };
 
-    /// Moves the next bytes into the front of `buf` and answers how many these are.
+    /// Moves the next bytes into the front of `buf`, which is not empty, and answers how many these are.
     ///
     /// `Ok(0)` means the end. After `Failed` nothing was taken, and what `buf` holds is unknown.
     fn read(&mut self, buf: &mut [u8]) -> Result<usize, Failed>

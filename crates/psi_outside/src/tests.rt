@@ -1,9 +1,7 @@
-ghost use Rattle.std.specs.Prelude.{◌≡◌, ◌<◌, ◌^◌, OnOk};
-ghost use Rattle.std.specs.Io.KnownBytes.{Appends};
-ghost use Rattle.psi_outside.specs.Causes.{HasCause};
-ghost use Rattle.psi_outside.specs.Streams.{IsAllFlushed};
+ghost use Rattle.std.specs.Prelude.{◌<◌, ◌^◌};
 
 use super::*;
+use crate::disk_files::read_opened;
 use std::alloc::{AllocError, Global};
 use std::io::{ErrorKind, Read, Write};
 use std::sync::Wait;
@@ -20,20 +18,6 @@ fn read_four<S: Source>(alloc: Global, source: &mut S) -> Result<Option<Vec<u8>>
     }
 }
 
-// Writes a text whole and flushes it.
-fn send<K: Sink>(sink: &mut K, text: &[u8]) -> Result<(), Failed>
-    ensures sent { OnOk result (Appends (K.written sink.old) (K.written sink.new) text.now) }
-    ensures flushed { OnOk result (IsAllFlushed (K.written sink.new) (K.flushed sink.new)) }
-    ensures cause { HasCause (K.faults sink.old) (K.faults sink.new) result }
-{
-    let mut rest = text;
-    while !rest.is_empty() {
-        let count = sink.write(rest)?;
-        rest = &rest[count..];
-    }
-    sink.flush()
-}
-
 // Reads a file through the trait.
 fn read_within<F: Files>(
     alloc: Global,
@@ -44,6 +28,15 @@ fn read_within<F: Files>(
     requires { max < 2 ^ 40 }
 {
     files.read_file(alloc, name, max)
+}
+
+// Whether an answer is these bytes, or this fault.
+fn is_answer<E: PartialEq + Copy>(answer: &Result<Vec<u8>, E>, want: Result<&[u8], E>) -> bool {
+    match (answer, want) {
+        (Ok(bytes), Ok(wanted)) => bytes.as_slice() == wanted,
+        (Err(fault), Err(wanted)) => *fault == wanted,
+        _ => false,
+    }
 }
 
 #[test]
@@ -72,20 +65,40 @@ fn a_source_in_memory_gives_pieces_and_fails_where_it_is_told(rt: HostRuntime) -
 }
 
 #[test]
+fn sources_are_read_to_their_end(rt: HostRuntime) -> Result<(), Fail> {
+    let alloc = rt.alloc();
+    // The reads that fail, the limit, and the answer.
+    let rows: [(&[u64], usize, Result<&[u8], ReadFault>); 3] = [
+        (&[], 5, Ok(b"abcde")),
+        (&[], 4, Err(ReadFault::TooLong)),
+        (&[1], 5, Err(ReadFault::Failed)),
+    ];
+    for (fails, limit, want) in rows {
+        let mut source = MemorySource::open(b"abcde".to_vec(alloc)?, 2, fails.to_vec(alloc)?);
+        assert!(rt;
+            is_answer(&read_all(alloc, &mut source, limit), want),
+            "limit {limit}"
+        );
+    }
+    Ok(())
+}
+
+#[test]
 fn a_sink_in_memory_keeps_what_it_takes_and_fails_where_it_is_told(
     rt: HostRuntime,
 ) -> Result<(), Fail> {
     let alloc = rt.alloc();
     let mut sink = MemorySink::open(alloc, 6, [1, 3].to_vec(alloc)?)?;
     // Calls 0 to 3, of which a write and a flush fail.
-    assert_eq!(rt; sink.write(b"abc"), Ok(3));
-    assert_eq!(rt; sink.write(b"d"), Err(Failed));
-    assert_eq!(rt; sink.flush(), Ok(()));
-    assert_eq!(rt; sink.flush(), Err(Failed));
+    assert_eq!(rt; sink.write(b"abc").ok(), Some(3));
+    assert_eq!(rt; sink.write(b"d").ok(), None);
+    assert_eq!(rt; sink.flush().ok(), Some(()));
+    assert_eq!(rt; sink.flush().ok(), None);
     // There is room for three more.
-    assert_eq!(rt; send(&mut sink, b"defg"), Err(Failed));
+    assert_eq!(rt; write_all(&mut sink, b"defg").ok(), None);
     assert_eq!(rt; sink.bytes(), b"abc".as_slice());
-    assert_eq!(rt; send(&mut sink, b"def"), Ok(()));
+    assert_eq!(rt; write_all(&mut sink, b"def").ok(), Some(()));
+    assert_eq!(rt; write_all(&mut sink, b"").ok(), Some(()));
     assert_eq!(rt; sink.bytes(), b"abcdef".as_slice());
     Ok(())
 }
@@ -98,37 +111,31 @@ fn files_in_memory_are_read_whole_or_refused(rt: HostRuntime) -> Result<(), Fail
         (String::from_str(alloc, "empty")?, Vec::new(alloc)),
     ]?;
     let mut files = MemoryFiles::open(list, [3].to_vec(alloc)?);
-    assert_eq!(rt;
-        read_within(alloc, &mut files, "full", 3)?.as_slice(),
-        b"abc".as_slice()
-    );
-    assert_eq!(rt;
-        read_within(alloc, &mut files, "full", 2),
-        Err(FileFault::TooLong { max: 2 })
-    );
-    assert_eq!(rt;
-        read_within(alloc, &mut files, "missing", 9),
-        Err(FileFault::Failed)
-    );
     // The fourth read fails.
-    assert_eq!(rt;
-        read_within(alloc, &mut files, "empty", 9),
-        Err(FileFault::Failed)
-    );
-    assert_eq!(rt;
-        read_within(alloc, &mut files, "empty", 0)?.as_slice(),
-        b"".as_slice()
-    );
+    let rows: [(&str, u64, Result<&[u8], FileFault>); 5] = [
+        ("full", 3, Ok(b"abc")),
+        ("full", 2, Err(FileFault::TooLong { max: 2 })),
+        ("missing", 9, Err(FileFault::Failed)),
+        ("empty", 9, Err(FileFault::Failed)),
+        ("empty", 0, Ok(b"")),
+    ];
+    for (name, max, want) in rows {
+        assert!(rt;
+            is_answer(&read_within(alloc, &mut files, name, max.min(9)), want),
+            "{name}"
+        );
+    }
     Ok(())
 }
 
-// A reader and a writer that take nothing: the reader fails, and the writer takes no byte and does not flush.
+// A reader and a writer that take nothing: a read fails for this reason, and the writer takes no byte and does not
+// flush.
 #[derive(Drop)]
-struct Blocked;
+struct Blocked(ErrorKind);
 
 impl Read for Blocked {
     fn read(&mut self, _buf: &mut [u8]) -> io::Result<usize> {
-        Err(io::Error::from(ErrorKind::BrokenPipe))
+        Err(io::Error::from(self.0))
     }
 }
 
@@ -138,7 +145,7 @@ impl Write for Blocked {
     }
 
     fn flush(&mut self) -> io::Result<()> {
-        Err(io::Error::from(ErrorKind::BrokenPipe))
+        Err(io::Error::from(self.0))
     }
 }
 
@@ -150,16 +157,18 @@ fn readers_and_writers_of_std_serve(rt: HostRuntime) -> Result<(), Fail> {
         let got = read_four(alloc, &mut source)?.ok_or("failed")?;
         assert_eq!(rt; got.as_slice(), want);
     }
-    let mut broken = ReaderSource::open(Blocked);
-    assert!(rt; read_four(alloc, &mut broken)?.is_none());
+    for kind in [ErrorKind::BrokenPipe, ErrorKind::OutOfMemory] {
+        let mut broken = ReaderSource::open(Blocked(kind));
+        assert!(rt; is_answer(&read_all(alloc, &mut broken, 9), Err(ReadFault::Failed)));
+    }
 
     let mut bytes = Vec::new(alloc);
     let mut sink = WriterSink::open(&mut bytes);
-    assert_eq!(rt; send(&mut sink, b"abc"), Ok(()));
+    assert_eq!(rt; write_all(&mut sink, b"abc").ok(), Some(()));
     assert_eq!(rt; bytes.as_slice(), b"abc".as_slice());
-    let mut full = WriterSink::open(Blocked);
-    assert_eq!(rt; full.write(b"abc"), Err(Failed));
-    assert_eq!(rt; full.flush(), Err(Failed));
+    let mut full = WriterSink::open(Blocked(ErrorKind::BrokenPipe));
+    assert_eq!(rt; full.write(b"abc").ok(), None);
+    assert_eq!(rt; full.flush().ok(), None);
     Ok(())
 }
 
@@ -196,22 +205,20 @@ fn files_on_the_disk_are_read_whole_or_refused(rt: HostRuntime) -> Result<(), Fa
     let alloc = rt.alloc();
     fs::write(&rt, "full", "abc")?;
     let mut files = DiskFiles::open(&rt);
-    assert_eq!(rt;
-        read_within(alloc, &mut files, "full", 3)?.as_slice(),
-        b"abc".as_slice()
-    );
-    assert_eq!(rt;
-        read_within(alloc, &mut files, "full", 2),
-        Err(FileFault::TooLong { max: 2 })
-    );
-    assert_eq!(rt;
-        read_within(alloc, &mut files, "missing", 9),
-        Err(FileFault::Failed)
-    );
     // A folder opens, and cannot be read.
-    assert_eq!(rt;
-        read_within(alloc, &mut files, ".", 9),
-        Err(FileFault::Failed)
-    );
+    let rows: [(&str, u64, Result<&[u8], FileFault>); 4] = [
+        ("full", 3, Ok(b"abc")),
+        ("full", 2, Err(FileFault::TooLong { max: 2 })),
+        ("missing", 9, Err(FileFault::Failed)),
+        (".", 9, Err(FileFault::Failed)),
+    ];
+    for (name, max, want) in rows {
+        assert!(rt;
+            is_answer(&read_within(alloc, &mut files, name, max.min(9)), want),
+            "{name}"
+        );
+    }
+    let starved = read_opened(Ok(Blocked(ErrorKind::OutOfMemory)), alloc, 9);
+    assert!(rt; is_answer(&starved, Err(FileFault::NoMemory)));
     Ok(())
 }

@@ -5,7 +5,7 @@ ghost use Rattle.query_codec.specs.declared.fault.CodecFault.TheVariants.{NoMemo
 use std::alloc::AllocError;
 
 /// Why a body was not read.
-#[derive(Clone, Copy, Debug, PartialEq, Eq)]
+#[derive(Clone, Copy, PartialEq, Eq)]
 pub enum CodecFault {
     /// The body has another length than it is to have.
     Length {

@@ -33,7 +33,7 @@ pub struct Placed<T> {
 }
 
 /// Why a call was refused. The book is as before.
-#[derive(Clone, Copy, Debug, PartialEq, Eq)]
+#[derive(Clone, Copy, PartialEq, Eq)]
 pub enum Refusal {
     /// The journal is full: it has its most entries, so many.
     JournalFull { entries: u64 },

@@ -2,7 +2,7 @@ use Rattle.std.proofs.Common.{ℕ, List, sym, subst}
 use Rattle.noise_ledger.specs.Verdicts.{parameters_of}
 use Rattle.psi_cli.specs.declared.status.Status.{Status}
 use Rattle.psi_cli.specs.Runs.{GivesUp}
-use Rattle.psi_cli.proofs.Ends.{answered-left, end-gives_up, IsServedText}
+use Rattle.psi_cli.proofs.Ends.{answered-left, read-gives_up, IsServedText}
 use Rattle.psi_cli.proofs.run.replies.Goals as goal
 
 pub returns-in-Ok-replies_to-clause-answered : goal.returns-in-Ok-replies_to-clause-answered
@@ -12,5 +12,5 @@ returns-in-Ok-replies_to-clause-answered g c =
 
 pub returns-clause-fault : goal.returns-clause-fault
 returns-clause-fault g c =
-    subst (λ (s : Status). GivesUp (parameters_of c.args.params.now) (g.S.Source.left c.args.input.now) (g.S.Source.faults c.args.input.now) (g.S.Source.faults c.read_all.new.source) s) (sym c.status_of_end.ensures)
-    (end-gives_up (parameters_of c.args.params.now) _ _ _ c.in-Err.end c.in-Err.ensures.longer c.in-Err.ensures.cause.counted)
+    subst (λ (s : Status). GivesUp (parameters_of c.args.params.now) (g.S.Source.left c.args.input.now) (g.S.Source.faults c.args.input.now) (g.S.Source.faults c.read_all.new.source) s) (sym c.status_of_read.ensures)
+    (read-gives_up (parameters_of c.args.params.now) _ _ _ c.in-Err.fault c.in-Err.ensures.longer c.in-Err.ensures.cause.counted)

@@ -4,11 +4,12 @@ ghost use Rattle.std.specs.Io.KnownBytes.{Appends};
 ghost use Rattle.psi_outside.specs.Causes.{HasCause};
 ghost use Rattle.psi_outside.specs.Streams.{IsAllFlushed};
 
-use psi_outside::{Failed, Sink};
+use crate::{Failed, Sink};
 
 /// Writes all of the text and flushes it. An empty text is flushed too.
 ///
-/// `Failed` comes where a write or the flush failed. A front of the text was written then.
+/// `Failed` comes where a write or the flush failed: the sink's count of faults rises by one, and a front of the text
+/// was written. Where the answer is Ok no write and no flush failed, so the count is as before.
 #[tactic(auto, using(crate::proofs::Pieces::whole_kept))]
 pub fn write_all<K: Sink>(sink: &mut K, text: &[u8]) -> Result<(), Failed>
     ensures written { OnOk result (Appends (K.written sink.old) (K.written sink.new) text.now) }

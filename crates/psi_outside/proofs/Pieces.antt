@@ -1,8 +1,9 @@
--- Writing piece by piece.
+-- Reading and writing piece by piece.
 use Rattle.std.specs.Prelude.{◌≡◌, ℕ, ◌-◌, List, ◌++◌, length, take, drop, Option, Some, None, Result, Ok, Err, OnErr}
-use Rattle.std.specs.Io.KnownBytes.{Appends, Keeps}
+use Rattle.std.specs.Io.KnownBytes.{Appends, Consumes, Keeps}
 use Rattle.std.proofs.Common.{sym, ap, ◌∙◌, subst, append_assoc, take-append-drop}
 use Rattle.std.proofs.Math.Seq.{take-append_seam, take-length}
+use Rattle.std.proofs.KnownBytes.{Consumes-kept, Consumes-trans}
 use Rattle.std.proofs.lemmas.List.{take_rest}
 
 -- the front of the rest goes over to what is done
@@ -31,3 +32,10 @@ on_err (Err e) P p = p
 -- the whole text is a front of it, where the flush fails
 pub whole_kept : {T E : Type 0} (r : Result T E) (a b c : Option (List ℕ)) (text : List ℕ) → Appends a b text → Keeps b c → OnErr r ((n : ℕ) × Appends a c (take n text))
 whole_kept r a b c text h k = on_err r _ (length text, subst (Appends a c) (sym (take-length text)) (appends_kept a b c text h k))
+
+-- what was taken before is a front of what was left, where the next read fails, and with a piece more, where that is not kept
+pub taken_kept : {T E : Type 0} (r : Result T E) (a b c : Option (List ℕ)) (bytes : List ℕ) → Consumes a b bytes → Keeps b c → OnErr r ((taken : List ℕ) × Consumes a c taken)
+taken_kept r a b c bytes h k = on_err r _ (bytes, Consumes-kept a b c bytes h k)
+
+pub taken_more : {T E : Type 0} (r : Result T E) (a b c : Option (List ℕ)) (bytes piece : List ℕ) → Consumes a b bytes → Consumes b c piece → OnErr r ((taken : List ℕ) × Consumes a c taken)
+taken_more r a b c bytes piece h k = on_err r _ (bytes ++ piece, Consumes-trans a b c bytes piece h k)

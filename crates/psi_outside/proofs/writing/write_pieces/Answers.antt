@@ -1,7 +1,7 @@
 use Rattle.std.proofs.Common.{◌∙◌, ◌++◌, take}
 use Rattle.std.proofs.KnownBytes.{Appends-trans}
-use Rattle.psi_cli.proofs.Pieces.{moves_front, front_done, on_err}
-use Rattle.psi_cli.proofs.writing.write_pieces.Goals as goal
+use Rattle.psi_outside.proofs.Pieces.{moves_front, front_done, on_err}
+use Rattle.psi_outside.proofs.writing.write_pieces.Goals as goal
 
 pub returns-in_err-count-clause-front : goal.returns-in_err-count-clause-front
 returns-in_err-count-clause-front g c =

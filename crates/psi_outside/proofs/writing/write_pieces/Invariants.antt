@@ -1,6 +1,6 @@
 use Rattle.std.proofs.Common.{◌≡◌, ℕ, List, ◌++◌, length}
 use Rattle.std.specs.Io.KnownBytes.{Appends}
-use Rattle.psi_outside.proofs.tests.send.Given as goal
+use Rattle.psi_outside.proofs.writing.write_pieces.Given as goal
 
 -- what is gone from the text was appended, and no call failed
 abbrev pub invariant-loop-rest : goal.invariant-loop-rest

@@ -1,0 +1,25 @@
+-- What reading a source to its end says where it does not give the bytes.
+use Rattle.std.specs.Prelude.{◌≡◌, ◌<◌, ◌≤◌, ℕ, List, length, OnOk, IfErr, IfSome, ⊤}
+use Rattle.std.specs.declared.option.Option.{Option}
+use Rattle.std.specs.declared.result.Result.{Result}
+use Rattle.psi_outside.specs.Causes.{count_on}
+use Rattle.psi_outside.specs.declared.faults.ReadFault.{ReadFault}
+use Rattle.psi_outside.specs.declared.faults.ReadFault.TheVariants.{Failed, TooLong, NoMemory}
+
+-- what a fault says of the count of faults: a failed read counts once, and nothing else does
+abbrev pub IsReadCounted : ℕ → ℕ → ReadFault → Type 0
+IsReadCounted before now Failed = now ≡ count_on before
+IsReadCounted before now TooLong = now ≡ before
+IsReadCounted before now NoMemory = now ≡ before
+
+-- The count never falls, it went up by one where a read failed, and it is as it was at every other answer.
+pub record HasReadCause {T : Type 0} (before now : ℕ) (result : Result T ReadFault) : Type 0 where
+  pub later : before ≤ now
+  pub counted : IfErr result (IsReadCounted before now)
+  pub kept : OnOk result (now ≡ before)
+
+-- more bytes were left than the limit, where they are told, if the fault says so
+abbrev pub IsLonger : ℕ → Option (List ℕ) → ReadFault → Type 0
+IsLonger limit left Failed = ⊤
+IsLonger limit left TooLong = IfSome left (λ bytes. limit < length bytes)
+IsLonger limit left NoMemory = ⊤

@@ -1,0 +1,53 @@
+//! Reading a source to its end.
+ghost use Rattle.std.specs.Prelude.{◌≡◌, ◌≤◌, ◌<◌, ◌+◌, ◌++◌, List, [], ℕ, Some, length, IfOk, OnOk, IfErr, OnErr, IfSome};
+ghost use Rattle.std.specs.Io.KnownBytes.{Consumes};
+ghost use Rattle.psi_outside.specs.Reading.{HasReadCause, IsLonger, IsReadCounted};
+
+use crate::{ReadFault, Source};
+use std::alloc::Global;
+
+// The bytes that one read has room for.
+const PIECE: usize = 8192;
+
+/// All bytes that a source has left, at most `limit` of them.
+///
+/// Where the source tells its bytes, Ok gives all of them and leaves none, `TooLong` comes only where they are more
+/// than `limit`, and after each fault a front of them was taken. The source's count of faults rises by one where the
+/// answer is `Failed`, and stays as it was at every other answer.
+pub fn read_all<S: Source>(
+    alloc: Global,
+    source: &mut S,
+    limit: usize,
+) -> Result<Vec<u8>, ReadFault>
+    ensures bytes { IfOk result (λ bytes. IfSome (S.left source.old) (λ left. bytes.items ≡ left)) }
+    ensures end { OnOk result (IfSome (S.left source.old) (λ _. S.left source.new ≡ Some [])) }
+    ensures bound { IfOk result (λ bytes. length bytes.items ≤ limit) }
+    ensures longer { IfErr result (IsLonger limit (S.left source.old)) }
+    ensures front { OnErr result ((taken : List ℕ) × Consumes (S.left source.old) (S.left source.new) taken) }
+    ensures cause { HasReadCause (S.faults source.old) (S.faults source.new) result }
+{
+    let mut bytes = Vec::new(alloc);
+    let mut piece = [0; PIECE];
+    loop {
+        let count = source.read(&mut piece)?;
+        if count == 0 {
+            return Ok(bytes);
+        }
+        append(&mut bytes, &piece[..count], limit)?;
+    }
+}
+
+// Puts a piece behind the bytes, unless they would be more than the limit.
+fn append(bytes: &mut Vec<u8>, piece: &[u8], limit: usize) -> Result<(), ReadFault>
+    requires { length bytes.old.items ≤ limit }
+    ensures all { OnOk result (bytes.new.items ≡ bytes.old.items ++ piece.now) }
+    ensures bound { OnOk result (length bytes.new.items ≤ limit) }
+    ensures long { IfErr result (IsLonger limit (Some (bytes.old.items ++ piece.now))) }
+    ensures no_fault { IfErr result (IsReadCounted 0 0) }
+{
+    if piece.len() > limit - bytes.len() {
+        return Err(ReadFault::TooLong);
+    }
+    bytes.extend_from_slice(piece)?;
+    Ok(())
+}
