@@ -24,7 +24,20 @@ use std::{env, io};
 
 fn main(rt: HostRuntime) -> ExitCode {
     let status = match command_words(&rt, rt.alloc()) {
-        Ok(words) => run(&rt, &words),
+        Ok(words) => {
+            let mut input = ReaderSource::open(rt.reader());
+            let mut output = WriterSink::open(io::writer(&rt));
+            let mut files = DiskFiles::open(&rt);
+            psi_run(
+                &rt,
+                rt.alloc(),
+                &words,
+                &mut input,
+                &mut files,
+                &mut output,
+                &Open,
+            )
+        }
         Err(status) => status.number(),
     };
     let line = status_line(status);
@@ -32,22 +45,6 @@ fn main(rt: HostRuntime) -> ExitCode {
         let _ = eprintln!(rt; "{line}");
     }
     ExitCode::from(status)
-}
-
-// The top call on the real source, files and sink.
-fn run(rt: &HostRuntime, words: &[String]) -> u8 {
-    let mut input = ReaderSource::open(rt.reader());
-    let mut output = WriterSink::open(io::writer(rt));
-    let mut files = DiskFiles::open(rt);
-    psi_run(
-        rt,
-        rt.alloc(),
-        words,
-        &mut input,
-        &mut files,
-        &mut output,
-        &Open,
-    )
 }
 
 // The words of the command line behind the program's name. Words that are no text are no command's.

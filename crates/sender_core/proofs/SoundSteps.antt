@@ -14,7 +14,7 @@ use Rattle.psi_bundle.specs.declared.member.Member.{Member}
 use Rattle.psi_bundle.specs.declared.history.Call.{Call}
 use Rattle.psi_bundle.specs.declared.history.Call.TheVariants as call
 use Rattle.item_slots.specs.Tags.{bins_of_row, positions_of}
-use Rattle.item_slots.specs.PositionLaws.{positions-below}
+use Rattle.item_slots.proofs.PositionLaws.{positions-below}
 use Rattle.psi_bundle.specs.Bins.{same_tag, holds, without, relabelled}
 use Rattle.psi_bundle.specs.Versions.{Version, Labels, Row, row_at, placed, changed, planes_of, cells_of, empty_version, greatest_stamp, IsWithinLimits, HasLabelLength, IsSound}
 use Rattle.psi_bundle.specs.Steps.{Step, step, next, unchanged, fits, replace, add, remove}
