@@ -13,7 +13,7 @@ use Rattle.psi_residue.specs.Parameters.{Parameters}
 use Rattle.psi_residue.specs.RootPolynomials.{root_value}
 use Rattle.psi_residue.specs.Slots.{slot_of}
 use Rattle.item_slots.specs.Tags.{parts, slot_value, positions_of}
-use Rattle.item_slots.specs.PositionLaws.{positions-below}
+use Rattle.item_slots.proofs.PositionLaws.{positions-below}
 use Rattle.noise_ledger.specs.Verdicts.{ArePassed}
 use Rattle.bfv_core.specs.Encryptions.{IsCiphertext, list_at, opening}
 use Rattle.bfv_core.specs.EncryptedLists.{key_of_seed}
