@@ -23,7 +23,7 @@ fn sets_of(alloc: Global, rows: &[[u16; 3]]) -> Result<Vec<Positions>, AllocErro
 {
     let mut sets = Vec::new(alloc);
     for row in rows {
-        let set = Positions::of(row[0], row[1], row[2]);
+        let set = Positions::of(row[0].min(3275), row[1].min(3275), row[2].min(3275));
         if is_within(&set) {
             sets.push(set)?;
         }

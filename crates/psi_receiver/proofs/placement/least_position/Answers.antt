@@ -4,4 +4,4 @@ use Rattle.psi_receiver.proofs.placement.least_position.Goals as goal
 
 pub returns-clause-least : goal.returns-clause-least
 unfolding least_position
-returns-clause-least c = ap (λ (xs : List ℕ). get_or xs 0 0) (c.list.ensures ∙ c.positions.ensures.listed)
+returns-clause-least c = ap (λ (xs : List ℕ). get_or xs 0 0) (c.list.ensures.listed ∙ c.positions.ensures.listed)
