@@ -16,3 +16,8 @@ pub mod Consistency
 pub mod SoundRepacked
 pub mod SoundHistories
 pub mod HistoryBytes
+pub mod StampSteps
+pub mod StampHistories
+pub mod Repacking
+pub mod Installing
+pub mod Interleaving
