@@ -1,4 +1,4 @@
-ghost use Rattle.std.specs.Prelude.{◌≡◌, ◌<◌, ◌≤◌, [], ◌∷◌, ◌++◌, length, Some, None, MatchOption, IfSome, IsTrue, IsFalse};
+ghost use Rattle.std.specs.Prelude.{◌≡◌, ◌<◌, ◌≤◌, [], ◌∷◌, ◌++◌, length, Some, None, IfNone, IfSome, IsTrue, IsFalse};
 ghost use Rattle.row_block.specs.Rows.{cleared};
 ghost use Rattle.row_block.specs.Shelves.{shelf_room, IsShelf};
 
@@ -41,7 +41,8 @@ impl Shelf {
 
     /// The block that was given last, which leaves the shelf. `None` exactly where the shelf has none.
     pub fn take(&mut self) -> Option<RowBlock>
-        ensures taken { MatchOption result ((self.old ≡ []) × (self.new ≡ [])) (λ block. self.old ≡ self.new ++ block ∷ []) }
+        ensures none { IfNone result ((self.old ≡ []) × (self.new ≡ [])) }
+        ensures taken { IfSome result (λ block. self.old ≡ self.new ++ block ∷ []) }
         ensures cleared { IfSome result (λ block. block.held ≡ []) }
         ensures facts { IsShelf self.new }
     {

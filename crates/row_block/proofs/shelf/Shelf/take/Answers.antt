@@ -8,6 +8,9 @@ taken c = takes c.self.inside c.self.invariant (c.self.inside.count - 1) (omega 
 pub invariant_of-self : goal.invariant_of-self
 invariant_of-self c = (taken c).stacked
 
+pub returns-clause-none : goal.returns-clause-none
+returns-clause-none c = rw (taken c).is tt
+
 pub returns-clause-taken : goal.returns-clause-taken
 returns-clause-taken c = let t = taken c in rw t.is (sym c.self.view_is ∙ t.kept)
 
