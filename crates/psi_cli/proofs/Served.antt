@@ -11,7 +11,12 @@ use Rattle.std.proofs.lemmas.List.{append-nil}
 use Rattle.std.proofs.lemmas.List.Elements.{All-from_recursion, All-push, recursion_from_All}
 use Rattle.std.proofs.lemmas.List.FromFn.{length-map-range_with_len}
 use Rattle.psi_residue.specs.Parameters.{Parameters}
-use Rattle.psi_bundle.specs.Versions.{HasLabelLength, Version, empty_version, has_label_length}
+use Rattle.std.specs.FinMap as fin
+use Rattle.psi_bundle.specs.declared.history.Answer.TheVariants as answer
+use Rattle.psi_bundle.specs.declared.history.Call.{Call}
+use Rattle.psi_bundle.specs.declared.history.Call.TheVariants as call
+use Rattle.psi_bundle.specs.Steps.{Step, step, replace, add, remove, repack, next, unchanged, fits}
+use Rattle.psi_bundle.specs.Versions.{HasLabelLength, Version, cells_of, empty_version, greatest_stamp, has_label_length, members_of_row, packed_row, placed, planes_of, row_at}
 use Rattle.query_codec.specs.Ciphertexts.{ciphertext_in, ciphertexts_in}
 use Rattle.query_codec.specs.Queries.{query_ciphertexts, powers_of}
 use Rattle.psi_frames.specs.declared.frame.Frame.{Frame}
@@ -19,7 +24,12 @@ use Rattle.psi_frames.specs.declared.request.Request.{Request}
 use Rattle.psi_frames.specs.declared.request.Request.TheVariants as request
 use Rattle.psi_frames.specs.Frames.{reply_bytes, put_kind, drop_kind, ask_kind, go_kind}
 use Rattle.psi_frames.specs.Inputs.{AreFrames, IsOneRoundAtMost, IsOneRoundInput, IsPutDropAskFrame}
-use Rattle.psi_frames.specs.OneLane.{HasByteCode, lane_next, lane_reply, lane_replies}
+use Rattle.psi_frames.specs.declared.reading.FramesFault.{FramesFault}
+use Rattle.psi_frames.specs.declared.reading.FramesFault.TheVariants as frames
+use Rattle.psi_frames.proofs.Turns.{count-step}
+use Rattle.psi_cli.specs.Serving.{serve_fault}
+use Rattle.psi_cli.specs.declared.serve.ServeFault.TheVariants as serves
+use Rattle.psi_frames.specs.OneLane.{HasByteCode, call_on, version_by, lane_next, lane_reply, lane_replies}
 use Rattle.item_slots.specs.Tags.{tag_of}
 use Rattle.psi_frames.specs.Requests.{asks_behind, ask_code, ask_request, code_of, counted, wrong_label, wrong_length, drop_code, drop_request, has_item, item_of, label_of, number_of, put_code, put_request, request_of, requests_from, session_of, unless_coded}
 use Rattle.psi_frames.specs.Rounds.{AreRounds, IsRound, request_rounds}
@@ -272,3 +282,41 @@ length-input p bytes fs h =
 -- the number of an input's frames
 pub few-frames : (fs : List Frame) → All IsPutDropAskFrame fs → IsOneRoundAtMost fs → length fs ≤ 4096
 few-frames fs each round = (one_round-bounds fs each round).0
+
+-- of two steps to one set of parameters, either way
+one_of : (b : Bool) (x y : Step) (p : Parameters) → x.version.parameters ≡ p → y.version.parameters ≡ p → (if b then x else y).version.parameters ≡ p
+one_of true x y p e f = e
+one_of false x y p e f = f
+
+-- a step keeps the parameters
+pub parameters-step : (v : Version) (c : Call) → (step v c).version.parameters ≡ v.parameters
+unfolding step
+parameters-step v (call.Put tag label) =
+    let rows = placed v.parameters (v.count + 1) (record { tag = tag; label = label }) v.rows in
+    one_of (is_some (fin.get v.labels tag)) (replace v tag label) (add v tag label rows) v.parameters refl
+    (one_of (fits v.parameters rows) (record { answer = answer.Added; version = next v (fin.insert v.labels tag label) rows })
+    (record { answer = answer.Full (planes_of v.parameters rows) (cells_of v.parameters rows); version = unchanged v }) v.parameters refl refl)
+parameters-step v (call.Drop tag) = one_of (is_some (fin.get v.labels tag)) (remove v tag) (record { answer = answer.Absent; version = unchanged v }) v.parameters refl refl
+parameters-step v call.Ask = refl
+parameters-step v (call.Repack row from) =
+    let packed = packed_row v.parameters.capacity (v.count + 1) (members_of_row (row_at v.rows row)) in
+    one_of (nat_le (greatest_stamp (row_at v.rows row)) from) (repack v row packed)
+    (record { answer = answer.Moved (greatest_stamp (row_at v.rows row)); version = unchanged v }) v.parameters refl refl
+
+-- what a request leaves has these parameters still, and one entry more at most
+pub parameters-next : (v : Version) (r : Request) → (lane_next v r).parameters ≡ v.parameters
+parameters-next v r = by_call (call_on v r) where
+  by_call : (o : Option Call) → (version_by v o).parameters ≡ v.parameters
+  by_call (Some c) = parameters-step v c
+  by_call None = refl
+
+pub count-next : (v : Version) (r : Request) → (lane_next v r).count ≤ v.count + 1
+count-next v r = by_call (call_on v r) where
+  by_call : (o : Option Call) → (version_by v o).count ≤ v.count + 1
+  by_call (Some c) = let one = count-step v c in omega (arith, one)
+  by_call None = omega arith
+
+-- frames are bad where serving says so
+pub bad_frames : (fault : FramesFault) → serve_fault fault ≡ serves.BadInput → fault ≡ frames.Bad
+bad_frames frames.Bad e = refl
+bad_frames frames.NoMemory e = absurd (cc)
