@@ -6,7 +6,7 @@ use Rattle.psi_residue.specs.Polynomials.{IsPolynomial}
 use Rattle.psi_residue.specs.Slots.{value_at_odd, coefficient_from, slot_of, slots_of, packed_at, packed, packed_list}
 use Rattle.psi_residue.specs.Sums.{sum_below}
 use Rattle.psi_residue.proofs.Sums.{sum_below-same, length-table, slice_index-table, same_as_table}
-use Rattle.batching.proofs.Inversion.{IsTransform, value_of_coefficients, coefficient_of_values}
+use Rattle.negacyclic.proofs.Inversion.{IsTransform, value_of_coefficients, coefficient_of_values}
 
 root_transform : IsTransform 65537 12 root root_inverse degree_inverse
 unfolding root root_inverse degree_inverse

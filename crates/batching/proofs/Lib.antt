@@ -1,4 +1,2 @@
-pub mod Roots
-pub mod Inversion
 pub mod Batches
 pub mod Walks

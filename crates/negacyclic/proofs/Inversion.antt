@@ -7,7 +7,7 @@ use Rattle.psi_residue.specs.Sums.{sum_below}
 use Rattle.psi_residue.specs.Slots.{value_at_odd, coefficient_from}
 use Rattle.psi_residue.proofs.Sums.{sum_below-same, sum_below-times, sum_below-constant, sum_below-swap}
 use Rattle.psi_residue.proofs.Congruences.{times_multiple, sum_below-mod, sum_below-one}
-use Rattle.batching.proofs.Roots.{powers_vanish, balanced}
+use Rattle.negacyclic.proofs.RootPowers.{powers_vanish, balanced}
 
 -- the power of two n = 2^k, two inverse numbers whose n-th powers are -1, and the inverse of n, all modulo m
 pub record IsTransform (m k x y c : ℕ) : Type 0 where
