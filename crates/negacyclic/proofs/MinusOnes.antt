@@ -1,7 +1,7 @@
 -- Differences modulo q, and powers of minus one.
 use Rattle.std.proofs.Common.{◌≡◌, ℕ, zero, suc, ◌+◌, ◌*◌, ◌%◌, ◌^◌, ◌<◌, refl, ap, ◌∙◌, sym, arith}
-use Rattle.std.proofs.lemmas.Nat.{mul-mod_first, mul-mod_second, pow-mod, pow-add}
-use Rattle.std.proofs.Math.Nat.{add-mod-mod, mod-add-mod, pow-zero, pow-succ'}
+use Rattle.std.proofs.lemmas.Nat.{pow-mod, pow-add}
+use Rattle.std.proofs.Math.Nat.{pow-zero, pow-succ'}
 use Rattle.psi_residue.proofs.Congruences.{sum_congruent, product_congruent, cancel_term, add_multiple, times_multiple}
 use Rattle.psi_residue.proofs.Powers.{pow-pow}
 
