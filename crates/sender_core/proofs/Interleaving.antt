@@ -1,5 +1,5 @@
 -- What holds of a book and of what it gave out, whatever events happen in whatever order.
-use Rattle.std.proofs.Common.{◌≡◌, ◌⊎◌, ℕ, zero, suc, ◌+◌, ◌%◌, ◌≤◌, ◌<◌, Bool, List, [], ◌∷◌, ◌++◌, length, get_or, replicate, Option, Some, None, inl, inr, refl, sym, ap, ◌∙◌, subst, arith, length-append}
+use Rattle.std.proofs.Common.{◌≡◌, ◌⊎◌, ℕ, zero, suc, ◌%◌, ◌≤◌, ◌<◌, List, [], ◌∷◌, ◌++◌, length, get_or, Option, Some, None, inl, inr, refl, sym, ap, ◌∙◌, subst, arith, length-append}
 use Rattle.std.specs.Prelude.{IfSome, IsTrue, slice_get}
 use Rattle.std.specs.List.{Contains}
 use Rattle.std.specs.FinMap as fin
@@ -10,14 +10,13 @@ use Rattle.psi_bundle.specs.declared.history.Call.{Call}
 use Rattle.psi_bundle.specs.declared.history.Call.TheVariants as call
 use Rattle.psi_bundle.specs.declared.history.Answer.{Answer}
 use Rattle.psi_bundle.specs.declared.history.Entry.{Entry}
-use Rattle.psi_bundle.specs.Versions.{Version, Row, row_at, empty_version}
-use Rattle.psi_bundle.specs.Histories.{IsLegal, replay, version_at}
-use Rattle.sender_core.specs.Kept.{Kept, Contents, View, RowSight, Job, most_entries, row_of, rows_of, version_of, start_of, empty_contents, kept_row, kept_at, CacheSuits, IsAsBefore, IsStep, IsStart}
+use Rattle.psi_bundle.specs.Versions.{Version, Row, row_at}
+use Rattle.psi_bundle.specs.Histories.{IsLegal, replay}
+use Rattle.sender_core.specs.Kept.{Kept, Contents, View, RowSight, Job, most_entries, version_of, start_of, empty_contents, kept_row, kept_at, CacheSuits, IsAsBefore, IsStep, IsStart}
 use Rattle.sender_core.specs.Stamps.{bundle_at}
 use Rattle.sender_core.specs.Given.{IsViewOf, IsJobOf, row_sight_of, sight_of, bare_rows}
-use Rattle.sender_core.specs.Tries.{now_at}
-use Rattle.sender_core.specs.Installs.{with_cache, installed}
-use Rattle.sender_core.specs.Events.{World, Event, put, drop_tag, ask, fetch_row, fetch_bare, commit, install, finish, IsCalled, fetched_by, Happens, Happen, IsFirst, world_of, IsShown, IsInterleaved, Interleaved, NumbersInterleaved, EmptyIsFirst}
+use Rattle.sender_core.specs.Installs.{installed}
+use Rattle.sender_core.specs.Events.{World, Event, put, drop_tag, ask, fetch_row, fetch_bare, commit, install, finish, IsCalled, fetched_by, Happens, Happen, IsFirst, world_of, IsShown, Interleaved, NumbersInterleaved, EmptyIsFirst}
 use Rattle.sender_core.proofs.Consistency.{same-start, legal-after, replayed-after, few-after, caches-after, no_row, rows_alone, unstamped}
 use Rattle.sender_core.proofs.SoundSteps.{sound-empty}
 use Rattle.sender_core.proofs.Installing.{installed-either, caches-installed, version-with, job-given}

@@ -6,7 +6,6 @@ pub mod SoundChanged
 pub mod SoundBins
 pub mod SoundPacked
 pub mod SoundSteps
-pub mod FirstFit
 pub mod Caches
 pub mod RowLists
 pub mod Counting

@@ -11,8 +11,8 @@ use Rattle.psi_bundle.specs.declared.history.Answer.TheVariants as answer
 use Rattle.psi_bundle.specs.Bins.{accepts, bin_at}
 use Rattle.psi_bundle.specs.Versions.{Version, Row, Stamped, row_at, bins_at, first_fit, joined, packed_row, members_of_row, greatest_stamp}
 use Rattle.psi_bundle.specs.Shows.{packed_bins}
-use Rattle.psi_bundle.specs.Steps.{Step, step, repack, next, unchanged}
-use Rattle.psi_bundle.specs.Histories.{replay, version_at}
+use Rattle.psi_bundle.specs.Steps.{Step, step, next, unchanged}
+use Rattle.psi_bundle.specs.Histories.{replay}
 use Rattle.sender_core.specs.Kept.{Kept, Contents, RowSight, row_of, rows_of, version_of, start_of, kept_row, kept_at, IsSameOrBare, RowKeepsCaches, IsStep, IsConsistent}
 use Rattle.sender_core.specs.States.{IsEntered}
 use Rattle.sender_core.specs.Changes.{bare_with}

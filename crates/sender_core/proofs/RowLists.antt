@@ -16,7 +16,7 @@ use Rattle.sender_core.specs.Kept.{Kept, stamped_of, row_of, rows_of, kept_row, 
 use Rattle.sender_core.specs.Shown.{kept_of, kept_of_row, kept_of_rows}
 use Rattle.sender_core.specs.Changes.{bin_after, changed_bundle}
 use Rattle.sender_core.proofs.Caches.{row-set, row-append, rows-set, rows-after, row-changed, changed-alone}
-use Rattle.sender_core.proofs.FirstFit.{position-map, position_passes, place-at, place-none}
+use Rattle.psi_bundle.proofs.FirstFit.{position-map, position_passes, place-at, place-none}
 
 -- one more position of a fold
 pub fold_more : {A : Type 0} (f : A → ℕ → A) (done after all : A) (ps : List ℕ) (i d : ℕ) → i < length ps → after ≡ f done (slice_index_or ps i d)
@@ -137,7 +137,7 @@ module _ {C : Type 0} (capacity stamp b : ℕ) (m : Member) (items : List (Shown
         let at : kept_of r ≡ slice_index_or (kept_of_row items) i (kept_of r) = sym (get_or-map kept_of items i r ∙ ap kept_of (sym here)) in
         let to : stamped_of (kept_of new) ≡ joined stamp b m (stamped_of (kept_of r)) = ap stamped_of new_is
         ∙ ap (λ (bs : List (List Member)). record { stamp = stamp; bins = bs }) (changed_is ∙ ap (λ (bs : List (List Member)). slice_set bs b (bin_at bs b ++ m ∷ [])) is) in
-        ap row_of (map-set kept_of items i new) ∙ place-at capacity stamp b m (kept_of_row items) i (kept_of r) (kept_of new) found at to
+        ap row_of (map-set kept_of items i new) ∙ place-at stamped_of capacity stamp b m (kept_of_row items) i (kept_of r) (kept_of new) found at to
 
     pub caches-at : RowKeepsCaches stamp (kept_of_row items) (kept_of_row (slice_set items i new))
     caches-at =
@@ -152,7 +152,7 @@ module _ {C : Type 0} (capacity stamp b : ℕ) (m : Member) (items : List (Shown
     fitted-none =
         let found = position-map kept_of (λ (k : Kept C). accepts capacity (bin_at k.bins b) m.tag) items 0 ∙ e in
         let to : stamped_of (kept_of new) ≡ joined stamp b m (fresh stamp) = ap stamped_of new_is ∙ ap (λ (bs : List (List Member)). record { stamp = stamp; bins = bs }) made_is in
-        ap (λ (us : List (Shown C)). row_of (kept_of_row us)) after_is ∙ ap row_of (map-append kept_of items (new ∷ [])) ∙ place-none capacity stamp b m (kept_of_row items) (kept_of new) found to
+        ap (λ (us : List (Shown C)). row_of (kept_of_row us)) after_is ∙ ap row_of (map-append kept_of items (new ∷ [])) ∙ place-none stamped_of capacity stamp b m (kept_of_row items) (kept_of new) found to
 
     pub caches-none : RowKeepsCaches stamp (kept_of_row items) (kept_of_row after)
     caches-none =

@@ -1,7 +1,7 @@
 -- What stamps tell of every history from a start without stamps.
-use Rattle.std.proofs.Common.{◌≡◌, ◌⊎◌, ℕ, zero, suc, ◌+◌, ◌≤◌, ◌<◌, List, [], ◌∷◌, ◌++◌, length, map, take, drop, max, Option, Some, None, inl, inr, refl, sym, ap, ◌∙◌, subst, arith, append_assoc, length-append}
+use Rattle.std.proofs.Common.{◌≡◌, ◌⊎◌, ℕ, zero, suc, ◌+◌, ◌≤◌, List, [], ◌∷◌, ◌++◌, length, map, take, drop, max, Some, inl, inr, refl, sym, ap, ◌∙◌, subst, arith, append_assoc, length-append}
 use Rattle.std.specs.Prelude.{slice_get}
-use Rattle.std.specs.List.{fold, All}
+use Rattle.std.specs.List.{fold}
 use Rattle.std.proofs.lemmas.Bool.{cases_lt}
 use Rattle.std.proofs.lemmas.List.{append-nil, take-append-le, take-append-drop, get_or_past}
 use Rattle.std.proofs.lemmas.List.Sums.{fold-append}
@@ -9,7 +9,6 @@ use Rattle.std.proofs.lemmas.Option.{none-some, same_Some, slice_get_within, get
 use Rattle.std.proofs.Math.Seq.{take-length}
 use Rattle.psi_bundle.specs.declared.history.Entry.{Entry}
 use Rattle.psi_bundle.specs.Versions.{Version, Row, Stamped, row_at, greatest_stamp}
-use Rattle.psi_bundle.specs.Steps.{step}
 use Rattle.psi_bundle.specs.Histories.{after, replay, version_at}
 use Rattle.sender_core.specs.Kept.{IsStart}
 use Rattle.sender_core.specs.Stamps.{bundle_at, StampsTell, RowsStand, EqualStampsMeanEqualBundles}

@@ -1,5 +1,5 @@
 -- How one step changes rows: each bundle is as it was, or has the new stamp.
-use Rattle.std.proofs.Common.{◌≡◌, ◌⊎◌, ℕ, zero, suc, ◌+◌, ◌/◌, ◌%◌, ◌≤◌, Bool, true, false, List, [], ◌∷◌, length, map, set, Option, Some, None, leb, inl, inr, refl, sym, ap, ◌∙◌, subst, arith}
+use Rattle.std.proofs.Common.{◌≡◌, ◌⊎◌, ℕ, zero, suc, ◌+◌, ◌/◌, ◌%◌, ◌≤◌, Bool, true, false, List, [], ◌∷◌, length, map, Some, leb, inl, inr, refl, sym, ap, ◌∙◌, subst, arith}
 use Rattle.std.specs.Prelude.{slice_get, slice_set, is_some, if◌then◌else◌}
 use Rattle.std.specs.List.{fold}
 use Rattle.std.specs.FinMap as fin
@@ -10,8 +10,8 @@ use Rattle.psi_bundle.specs.declared.history.Call.{Call}
 use Rattle.psi_bundle.specs.declared.history.Call.TheVariants as call
 use Rattle.item_slots.specs.Tags.{bins_of_row, positions_of}
 use Rattle.psi_bundle.specs.Bins.{accepts, holds, bin_at, relabelled, without}
-use Rattle.psi_bundle.specs.Versions.{Version, Row, Stamped, row_at, first_fit, joined, fresh, with_bin, placed_at, placed, changed_at, changed, members_of_row, packed_row, greatest_stamp}
-use Rattle.psi_bundle.specs.Steps.{Step, step, fits, replace, add, remove, repack}
+use Rattle.psi_bundle.specs.Versions.{Version, Row, Stamped, row_at, first_fit, joined, fresh, with_bin, placed_at, placed, changed_at, members_of_row, packed_row, greatest_stamp}
+use Rattle.psi_bundle.specs.Steps.{Step, step, fits, replace, remove, repack}
 use Rattle.sender_core.proofs.SoundLists.{set-cases}
 
 -- each bundle of the new row is as it was, or has the stamp, and no bundle is gone

@@ -1,8 +1,8 @@
 -- What a book gives out to be used later: views of rows, and bundles without a cache; and when they are of its history.
-use Rattle.std.specs.Prelude.{◌≡◌, ℕ, ◌<◌, ◌≤◌, List, [], ◌∷◌, length, slice_get, Option, Some, None}
+use Rattle.std.specs.Prelude.{◌≡◌, ℕ, ◌<◌, ◌≤◌, List, [], ◌∷◌, length, Option, Some, None}
 use Rattle.std.specs.List.{flat_map, enumerate_from}
 use Rattle.psi_bundle.specs.declared.history.Entry.{Entry}
-use Rattle.psi_bundle.specs.Versions.{Version, Row, row_at, greatest_stamp}
+use Rattle.psi_bundle.specs.Versions.{Version, row_at, greatest_stamp}
 use Rattle.psi_bundle.specs.Shows.{packed_bins}
 use Rattle.psi_bundle.specs.Histories.{version_at}
 use Rattle.psi_bundle.specs.declared.member.Member.{Member}

@@ -1,7 +1,6 @@
 -- A cache that comes back for a bundle: whether the bundle still stands, and what the receipt tells.
 use Rattle.std.specs.Prelude.{ℕ, nat_eq, if◌then◌else◌, List, length, slice_get, Option, Some, None}
 use Rattle.std.specs.Arc.{arc_value}
-use Rattle.psi_bundle.specs.declared.member.Member.{Member}
 use Rattle.sender_core.specs.declared.task.Task.{Task}
 use Rattle.sender_core.specs.declared.receipt.Now.{Now}
 use Rattle.sender_core.specs.declared.receipt.Now.TheVariants as now

@@ -1,4 +1,4 @@
-use Rattle.std.proofs.Common.{◌∙◌, ◌<◌, ◌≡◌, ◌%◌, ap, sym, subst, length, List, Vec, Global, arith, vec_len}
+use Rattle.std.proofs.Common.{◌∙◌, ◌<◌, ◌%◌, ap, subst, List, Vec, Global, arith}
 use Rattle.std.proofs.lemmas.Bool.Decides.{nat_tests}
 use Rattle.psi_bundle.specs.declared.cached.Shown.{Shown}
 use Rattle.sender_core.specs.Kept.{Contents, start_of}

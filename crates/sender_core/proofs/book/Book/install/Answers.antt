@@ -1,7 +1,7 @@
 use Rattle.std.proofs.Common.{◌≡◌, sym, subst}
 use Rattle.std.specs.Prelude.{OnOk, OnErr, Result, Ok, Err}
 use Rattle.psi_residue.specs.Parameters.{parameter_bytes}
-use Rattle.sender_core.specs.Kept.{Contents, Job, start_of, IsConsistent}
+use Rattle.sender_core.specs.Kept.{Contents, start_of, IsConsistent}
 use Rattle.sender_core.specs.States.{contents_of}
 use Rattle.sender_core.specs.Given.{IsJobOf}
 use Rattle.sender_core.specs.Tries.{job_of}

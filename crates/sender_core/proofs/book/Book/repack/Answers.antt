@@ -1,5 +1,4 @@
-use Rattle.std.proofs.Common.{◌∙◌, ◌<◌, ◌≡◌, ap, sym, subst, length, List, ℕ}
-use Rattle.psi_bundle.specs.declared.member.Member.{Member}
+use Rattle.std.proofs.Common.{◌<◌, ◌≡◌, sym, subst, length, ℕ}
 use Rattle.psi_bundle.specs.declared.history.Call.TheVariants as Call
 use Rattle.psi_bundle.specs.Shows.{packed_bins}
 use Rattle.sender_core.specs.Kept.{Contents, most_entries, start_of, row_of}

@@ -9,7 +9,6 @@ use Rattle.psi_bundle.specs.declared.member.Member.{Member}
 use Rattle.item_slots.specs.Tags.{bins_of_row}
 use Rattle.psi_bundle.specs.Bins.{accepts, bin_at, empty_bins}
 use Rattle.psi_bundle.specs.Versions.{Stamped, Row, first_fit, joined, fresh}
-use Rattle.sender_core.specs.Kept.{Kept, stamped_of, row_of}
 
 -- where a bundle accepts the member's tag
 abbrev pub takes : ℕ → ℕ → Member → Stamped → Bool
@@ -85,22 +84,23 @@ fresh-accepts capacity b tag some h =
     let free : nat_lt 0 capacity ≡ true = lt-ltb 0 capacity some in
     ap (λ (bin : List Member). accepts capacity bin tag) (get_or-replicate 819 b [] [] h) ∙ rw free refl
 
-module _ {C : Type 0} (capacity stamp b : ℕ) (m : Member) where
+-- a list of anything that stands for a row
+module _ {X : Type 0} (f : X → Stamped) (capacity stamp b : ℕ) (m : Member) where
   -- where bundle number i is the first that accepts, it is changed
-  pub place-at : (ks : List (Kept C)) (i : ℕ) (k new : Kept C) → position_from (λ u. accepts capacity (bin_at u.bins b) m.tag) 0 ks ≡ Some i → k ≡ slice_index_or ks i k
-      → stamped_of new ≡ joined stamp b m (stamped_of k)
-      → row_of (slice_set ks i new) ≡ first_fit capacity stamp b m (row_of ks)
-  place-at ks i k new e here is =
-      let found = first_fit-at capacity stamp b m (row_of ks) i 0 (stamped_of k) (position-map stamped_of (takes capacity b m) ks 0 ∙ e ∙ ap Some (omega arith)) in
-      let was : slice_index_or (row_of ks) i (stamped_of k) ≡ stamped_of k = get_or-map stamped_of ks i k ∙ ap stamped_of (sym here) in
-      map-set stamped_of ks i new
-      ∙ ap (slice_set (row_of ks) i) (is ∙ sym (ap (joined stamp b m) was))
+  pub place-at : (xs : List X) (i : ℕ) (x new : X) → position_from (λ y. accepts capacity (bin_at (f y).bins b) m.tag) 0 xs ≡ Some i → x ≡ slice_index_or xs i x
+      → f new ≡ joined stamp b m (f x)
+      → map f (slice_set xs i new) ≡ first_fit capacity stamp b m (map f xs)
+  place-at xs i x new e here is =
+      let found = first_fit-at capacity stamp b m (map f xs) i 0 (f x) (position-map f (takes capacity b m) xs 0 ∙ e ∙ ap Some (omega arith)) in
+      let was : slice_index_or (map f xs) i (f x) ≡ f x = get_or-map f xs i x ∙ ap f (sym here) in
+      map-set f xs i new
+      ∙ ap (slice_set (map f xs) i) (is ∙ sym (ap (joined stamp b m) was))
       ∙ sym found.1
 
   -- where none accepts, there is a new last bundle
-  pub place-none : (ks : List (Kept C)) (new : Kept C) → position_from (λ u. accepts capacity (bin_at u.bins b) m.tag) 0 ks ≡ None → stamped_of new ≡ joined stamp b m (fresh stamp)
-      → row_of (ks ++ new ∷ []) ≡ first_fit capacity stamp b m (row_of ks)
-  place-none ks new e is =
-      map-append stamped_of ks (new ∷ [])
-      ∙ ap (λ (u : Stamped). row_of ks ++ u ∷ []) is
-      ∙ sym (first_fit-none capacity stamp b m (row_of ks) 0 (position-map stamped_of (takes capacity b m) ks 0 ∙ e))
+  pub place-none : (xs : List X) (new : X) → position_from (λ y. accepts capacity (bin_at (f y).bins b) m.tag) 0 xs ≡ None → f new ≡ joined stamp b m (fresh stamp)
+      → map f (xs ++ new ∷ []) ≡ first_fit capacity stamp b m (map f xs)
+  place-none xs new e is =
+      map-append f xs (new ∷ [])
+      ∙ ap (λ (u : Stamped). map f xs ++ u ∷ []) is
+      ∙ sym (first_fit-none capacity stamp b m (map f xs) 0 (position-map f (takes capacity b m) xs 0 ∙ e))
