@@ -1,5 +1,5 @@
 -- Lists of a known length, by their elements.
-use Rattle.std.proofs.Common.{◌≡◌, ℕ, ◌≤◌, ◌<◌, List, [], ◌∷◌, length, get_or, refl, arith}
+use Rattle.std.proofs.Common.{◌≡◌, ◌≤◌, ◌<◌, List, [], ◌∷◌, length, get_or, refl, arith}
 
 pub none_are : {A : Type 0} (xs : List A) → length xs ≡ 0 → xs ≡ []
 none_are [] none = refl

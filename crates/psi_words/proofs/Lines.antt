@@ -1,14 +1,13 @@
 -- A command line, and its parts: the words before the command word, that word, and the words behind it.
-use Rattle.std.proofs.Common.{◌≡◌, ℕ, zero, suc, ◌+◌, ◌-◌, Bool, true, false, ◌==◌, if◌then◌else◌, inl, inr, List, [], ◌∷◌, ◌++◌, codes, length, map, take, drop, Option, None, Some, Result, Ok, Err, refl, sym, ap, subst, ◌∙◌, length-append, length-drop, add-one, arith}
+use Rattle.std.proofs.Common.{◌≡◌, ℕ, zero, suc, ◌+◌, ◌-◌, Bool, true, false, ◌==◌, inl, inr, List, [], ◌∷◌, ◌++◌, codes, length, map, take, drop, Option, None, Some, refl, sym, ap, subst, ◌∙◌, length-append, length-drop, add-one, arith}
 use Rattle.std.specs.List.{find, slice_get}
-use Rattle.std.specs.Option.{option_and_then}
 use Rattle.std.specs.Str.{bytes_eq}
 use Rattle.std.proofs.lemmas.Bool.{cases_Bool}
 use Rattle.std.proofs.lemmas.Bool.Decides.{nat_tests}
 use Rattle.std.proofs.lemmas.List.{drop-map, take_all}
-use Rattle.psi_words.specs.Forms.{Form, is_of}
-use Rattle.psi_words.specs.Forms.Form.{Known, Number}
-use Rattle.psi_words.specs.Grammar.{Lead, Line, Row, command_word, drop_word, first_wrong, forms_of, is_counted, is_named, judged, judged_row, lead_forms, lead_of, rows}
+use Rattle.psi_words.specs.Forms.{Form}
+use Rattle.psi_words.specs.Forms.Form.{Known}
+use Rattle.psi_words.specs.Grammar.{Lead, Line, Row, drop_word, first_wrong, forms_of, is_counted, is_named, judged, judged_row, lead_forms, lead_of, rows}
 use Rattle.psi_words.specs.Leads.{judged_behind, judged_found, judged_named, wrong_or}
 
 -- the word behind n words

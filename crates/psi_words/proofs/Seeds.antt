@@ -1,14 +1,11 @@
 -- Words of 64 hexadecimal digits.
-use Rattle.std.proofs.Common.{◌≡◌, ℕ, Bool, true, false, ◌&&◌, ◌==◌, List, length, Result, Ok, Err, refl, sym, ap, ◌∙◌, arith}
-use Rattle.std.specs.Prelude.{IsOk}
+use Rattle.std.proofs.Common.{◌≡◌, ℕ, Bool, true, false, ◌==◌, List, length, Ok, Err, refl, sym, ◌∙◌}
 use Rattle.std.specs.List.{list_all}
-use Rattle.std.specs.Result.{result_unwrap_or}
 use Rattle.std.proofs.lemmas.Bool.{and_parts, eqb-true}
 use Rattle.std.proofs.lemmas.List.Sums.{AllPass-from_list_all, list_all-from_AllPass}
-use Rattle.hex.specs.Hex.{decode_of, decode_sized, is_hex_digit}
+use Rattle.hex.specs.Hex.{decode_sized, is_hex_digit}
 use Rattle.hex.specs.declared.error.FromHexError.{FromHexError}
 use Rattle.hex.proofs.HexLemmas.{IsOk-decode_sized, decode_sized-twice}
-use Rattle.psi_words.specs.declared.fault.WordFault.{WordFault}
 use Rattle.psi_words.specs.declared.fault.WordFault.TheVariants.{Value}
 use Rattle.psi_words.specs.Forms.{is_of, read, seed_of}
 use Rattle.psi_words.specs.Forms.Form.{Seed}

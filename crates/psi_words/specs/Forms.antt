@@ -1,5 +1,5 @@
 -- The forms of the words of a command line, and what words of these forms stand for. A word is the list of its bytes.
-use Rattle.std.specs.Prelude.{ℕ, ◌+◌, ◌-◌, ◌*◌, Bool, true, false, not, ◌&&◌, ◌||◌, ◌==◌, nat_le, nat_lt, if◌then◌else◌, Result, Ok, Err, List, [], ◌∷◌, codes, length, slice_index, fold}
+use Rattle.std.specs.Prelude.{ℕ, ◌+◌, ◌-◌, ◌*◌, Bool, true, not, ◌&&◌, ◌||◌, ◌==◌, nat_le, nat_lt, if◌then◌else◌, Result, Ok, Err, List, [], codes, length, slice_index, fold}
 use Rattle.std.specs.Char.{is_ascii_digit}
 use Rattle.std.specs.List.{list_all}
 use Rattle.std.specs.Result.{result_unwrap_or}
@@ -8,7 +8,8 @@ use Rattle.psi_words.specs.declared.fault.WordFault.{WordFault}
 use Rattle.psi_words.specs.declared.fault.WordFault.TheVariants.{Value}
 use Rattle.hex.specs.Hex.{decode_of, is_hex_digit}
 
--- what a word has to be: nothing that is not known of it already, a number from low to high, 64 hexadecimal digits, or not empty
+-- what a word has to be: a word that is known by its place already, a number from low to high, 64 hexadecimal digits of either
+-- case, or any word that is not empty
 pub data Form : Type 0 where
   Known : Form
   Number : (low high : ℕ) → Form
@@ -38,6 +39,6 @@ is_of (Number low high) word = is_number word && nat_le low (number_of word) && 
 is_of Seed word = length word == 64 && list_all is_hex_digit word
 is_of File word = nat_lt 0 (length word)
 
--- what a word at a number gives: the value, where the word is of its form
+-- what a word gives that stands at a number among all words: the value, where the word is of the form
 abbrev pub read : {A : Type 0} → Form → ℕ → List ℕ → A → Result A WordFault
 read form at word value = if is_of form word then Ok value else Err (Value at)

@@ -1,5 +1,5 @@
 -- The commands, and which of them a command line gives. The words do not include the program's name.
-use Rattle.std.specs.Prelude.{ℕ, ◌+◌, ◌≤◌, Bool, true, false, not, ◌&&◌, ◌||◌, ◌==◌, if◌then◌else◌, List, [], ◌∷◌, ◌++◌, codes, length, drop, Option, None, Some, is_some, Result, Ok, Err, ⊤}
+use Rattle.std.specs.Prelude.{ℕ, ◌+◌, ◌≤◌, Bool, true, false, not, ◌&&◌, ◌||◌, ◌==◌, if◌then◌else◌, List, [], ◌∷◌, ◌++◌, codes, length, drop, Option, None, Some, Result, Ok, Err, ⊤}
 use Rattle.std.specs.List.{find, position_from, slice_get, slice_index_or, zip}
 use Rattle.std.specs.Option.{option_and_then, option_map}
 use Rattle.std.specs.Str.{bytes_eq}
@@ -10,7 +10,7 @@ use Rattle.psi_words.specs.declared.fault.WordFault.TheVariants.{NoCommand, Coun
 use Rattle.psi_words.specs.Forms.{Form, is_of, number_of, seed_of}
 use Rattle.psi_words.specs.Forms.Form.{Known, Number, Seed, File}
 
--- the words of a command line, each as its bytes
+-- the words of a command line, each as the list of its bytes
 abbrev pub Line : Type 0
 Line = List (List ℕ)
 
@@ -21,7 +21,7 @@ pub record Lead : Type 0 where
   pub drop : Option (List ℕ)
   pub counted : Bool
 
--- DROP: the word next after a first word `form2`, whatever its form
+-- DROP: the word next after a first word `form2`, whatever its form. A `form2` alone names no command
 abbrev pub drop_word : Line → Option (List ℕ)
 drop_word [] = None
 drop_word (first ∷ rest) = if bytes_eq first (codes "form2") then slice_get rest 0 else None
@@ -54,9 +54,12 @@ pub record Row : Type 0 where
   pub forms : List Form
   pub command : Lead → Line → Command
 
--- the number that word k writes
+-- word k, and the number that it writes
+abbrev pub word_at : ℕ → Line → List ℕ
+word_at k words = slice_index_or words k []
+
 abbrev pub number_at : ℕ → Line → ℕ
-number_at k words = number_of (slice_index_or words k [])
+number_at k words = number_of (word_at k words)
 
 -- the value of DROP
 abbrev pub dropped : Lead → Option ℕ
@@ -72,7 +75,9 @@ serve_row = record {
   name = codes "serve";
   takes_lead = true;
   forms = sizes ++ Number 1 8 ∷ Number 0 4 ∷ [];
-  command = λ lead words. Serve (number_at 0 words) (number_at 1 words) (number_at 2 words) (dropped lead) lead.counted (number_at 3 words) (number_at 4 words);
+  command = λ lead words.
+      Serve (number_at 0 words) (number_at 1 words) (number_at 2 words) (dropped lead) lead.counted
+      (number_at 3 words) (number_at 4 words);
 }
 
 abbrev pub replay_row : Row
@@ -81,7 +86,8 @@ replay_row = record {
   name = codes "replay";
   takes_lead = true;
   forms = sizes;
-  command = λ lead words. Replay (number_at 0 words) (number_at 1 words) (number_at 2 words) (dropped lead) lead.counted;
+  command = λ lead words.
+      Replay (number_at 0 words) (number_at 1 words) (number_at 2 words) (dropped lead) lead.counted;
 }
 
 abbrev pub params_row : Row
@@ -90,7 +96,8 @@ params_row = record {
   name = codes "params";
   takes_lead = true;
   forms = sizes;
-  command = λ lead words. Params (number_at 0 words) (number_at 1 words) (number_at 2 words) (dropped lead) lead.counted;
+  command = λ lead words.
+      Params (number_at 0 words) (number_at 1 words) (number_at 2 words) (dropped lead) lead.counted;
 }
 
 abbrev pub ask_row : Row
@@ -99,7 +106,9 @@ ask_row = record {
   name = codes "ask";
   takes_lead = true;
   forms = sizes ++ Seed ∷ Number 0 65535 ∷ Number 0 4294967295 ∷ [];
-  command = λ lead words. Ask (number_at 0 words) (number_at 1 words) (number_at 2 words) (dropped lead) lead.counted (seed_of (slice_index_or words 3 [])) (number_at 4 words) (number_at 5 words);
+  command = λ lead words.
+      Ask (number_at 0 words) (number_at 1 words) (number_at 2 words) (dropped lead) lead.counted
+      (seed_of (word_at 3 words)) (number_at 4 words) (number_at 5 words);
 }
 
 abbrev pub open_row : Row
@@ -108,7 +117,9 @@ open_row = record {
   name = codes "open";
   takes_lead = true;
   forms = sizes ++ Seed ∷ File ∷ [];
-  command = λ lead words. Open (number_at 0 words) (number_at 1 words) (number_at 2 words) (dropped lead) lead.counted (seed_of (slice_index_or words 3 [])) (slice_index_or words 4 []);
+  command = λ lead words.
+      Open (number_at 0 words) (number_at 1 words) (number_at 2 words) (dropped lead) lead.counted
+      (seed_of (word_at 3 words)) (word_at 4 words);
 }
 
 abbrev pub demo_row : Row
@@ -167,7 +178,7 @@ judged_row (Some row) line =
 abbrev pub judged : Line → Result Command WordFault
 judged line = judged_row (row_of line) line
 
--- a line gives a command that keeps the name of a file
+-- the answer is a command that keeps the name of a file
 abbrev pub KeepsName : Result Command WordFault → Type 0
 KeepsName (Ok (Open _ _ _ _ _ _ file)) = ⊤
 KeepsName _ = ⊥

@@ -1,14 +1,15 @@
 -- What a command line gives, by its parts: the words before the command word, that word, and the words behind it.
-use Rattle.std.specs.Prelude.{ℕ, ◌+◌, Bool, not, ◌==◌, if◌then◌else◌, List, [], ◌∷◌, length, Option, None, Some, Result, Ok, Err}
+use Rattle.std.specs.Prelude.{ℕ, ◌+◌, not, ◌==◌, if◌then◌else◌, List, length, Option, None, Some, Result, Ok, Err}
 use Rattle.std.specs.List.{find}
 use Rattle.std.specs.Option.{option_copied}
 use Rattle.psi_words.specs.declared.command.Command.{Command}
 use Rattle.psi_words.specs.declared.fault.WordFault.{WordFault}
 use Rattle.psi_words.specs.declared.fault.WordFault.TheVariants.{NoCommand, Count, Value}
 use Rattle.psi_words.specs.declared.lead.Lead as kept
+use Rattle.psi_words.specs.declared.reading.Sizes.{Sizes}
 use Rattle.psi_words.specs.Forms.{Form, is_of, number_of}
 use Rattle.psi_words.specs.Forms.Form.{Number}
-use Rattle.psi_words.specs.Grammar.{Line, Lead, Row, rows, first_wrong, is_named, judged_value, lead_forms}
+use Rattle.psi_words.specs.Grammar.{Line, Lead, Row, rows, dropped, first_wrong, is_named, judged_value, lead_forms}
 
 -- the words before the command word, as the program keeps them
 abbrev pub shown : kept.Lead → Lead
@@ -27,6 +28,17 @@ wrong_or (Some word) otherwise = if not (is_of (Number 0 255) word) then Some 1 
 -- the number of the first word that is not of its form, with the forms of the words behind the command word
 abbrev pub first_wrong_behind : List Form → Lead → Line → Option ℕ
 first_wrong_behind forms lead behind = wrong_or lead.drop (first_wrong (length (lead_forms lead) + 1) forms behind)
+
+-- the values of DROP and of the first three words behind the command word
+abbrev pub sizes_of : Lead → (rows capacity units : List ℕ) → Sizes
+sizes_of lead rows capacity units =
+    record {
+      rows = number_of rows;
+      capacity = number_of capacity;
+      units = number_of units;
+      drop = dropped lead;
+      counted = lead.counted;
+    }
 
 -- what a command gives with the words before and behind its command word
 abbrev pub judged_behind : Row → Lead → Line → Result Command WordFault

@@ -1,8 +1,7 @@
 //! Commands from words.
 ghost use Rattle.std.specs.Prelude.{◌≡◌, ◌⊎◌, [], ◌∷◌, Ok, Err, IfOk, IfErr, map, string_bytes};
-ghost use Rattle.psi_words.specs.Forms.{number_of};
-ghost use Rattle.psi_words.specs.Grammar.{HasLanes, KeepsName, ask_row, demo_row, dropped, help_row, judged, judged_value, lead_forms, open_row, params_row, replay_row, serve_row, sizes};
-ghost use Rattle.psi_words.specs.Leads.{first_wrong_behind, judged_behind, judged_named, shown};
+ghost use Rattle.psi_words.specs.Grammar.{HasLanes, KeepsName, ask_row, demo_row, help_row, judged, judged_value, lead_forms, open_row, params_row, replay_row, serve_row, sizes};
+ghost use Rattle.psi_words.specs.Leads.{first_wrong_behind, judged_behind, judged_named, shown, sizes_of};
 ghost use Rattle.psi_words.specs.declared.fault.WordFault.TheVariants.{NoMemory};
 
 use crate::command::Command;
@@ -63,7 +62,7 @@ struct Sizes {
 // The values of DROP and of the first three words behind the command word.
 fn read_sizes(lead: &Lead, rows: &str, capacity: &str, units: &str) -> Result<Sizes, WordFault>
     ensures { result ≡ judged_value (first_wrong_behind sizes (shown lead.now) (rows.now ∷ capacity.now ∷ units.now ∷ []))
-        (record { rows = number_of rows.now; capacity = number_of capacity.now; units = number_of units.now; drop = dropped (shown lead.now); counted = lead.now.counted }) }
+        (sizes_of (shown lead.now) rows.now capacity.now units.now) }
 {
     Ok(Sizes {
         drop: lead.drop_value()?,

@@ -1,5 +1,5 @@
 use Rattle.std.proofs.Common.{◌≡◌, ◌<◌, ◌^◌, drop}
-use Rattle.std.specs.List.{fold, list_all}
+use Rattle.std.specs.List.{fold}
 use Rattle.psi_words.specs.Forms.{number_of}
 use Rattle.psi_words.proofs.Digits.{and_digit}
 use Rattle.psi_words.proofs.forms.digits_value.Given as goal

@@ -1,4 +1,4 @@
-use Rattle.std.proofs.Common.{◌≡◌, ◌∷◌, [], map, string_bytes, Ok, Err, refl, sym, ap, ◌∙◌}
+use Rattle.std.proofs.Common.{◌≡◌, ◌∷◌, [], map, string_bytes, refl, sym, ap, ◌∙◌}
 use Rattle.psi_words.specs.Forms.{number_of}
 use Rattle.psi_words.specs.Forms.Form.{Number}
 use Rattle.psi_words.specs.Grammar.{demo_row}

@@ -1,8 +1,8 @@
-use Rattle.std.proofs.Common.{◌≡◌, ◌∷◌, [], ◌++◌, inl, inr, map, string_bytes, Ok, Err, refl, sym, ap, ◌∙◌}
-use Rattle.psi_words.specs.Forms.{number_of, seed_of}
-use Rattle.psi_words.specs.Forms.Form.{Number, Seed, File}
-use Rattle.psi_words.specs.Grammar.{open_row, dropped, sizes}
-use Rattle.psi_words.specs.Leads.{judged_behind, shown}
+use Rattle.std.proofs.Common.{◌≡◌, ◌∷◌, [], ◌++◌, inl, inr, map, string_bytes, refl, sym, ap, ◌∙◌}
+use Rattle.psi_words.specs.Forms.{seed_of}
+use Rattle.psi_words.specs.Forms.Form.{Seed, File}
+use Rattle.psi_words.specs.Grammar.{open_row, sizes}
+use Rattle.psi_words.specs.Leads.{shown, sizes_of}
 use Rattle.psi_words.proofs.Behind.{AreRead, AreRead-given, AreRead-next, gives-Ok, gives-fault, gives-fault_next, hands_on, judged_fault, judged_memory, read-is}
 use Rattle.psi_words.proofs.Elements.{five_are}
 use Rattle.psi_words.proofs.reading.open.Goals as goal
@@ -17,7 +17,7 @@ words c =
 
 -- the sizes were read
 after_sizes : (c : In_ok-sizes) → AreRead (shown c.args.lead.now) sizes (c.deref.result.now ∷ c.deref-2.result.now ∷ c.deref-3.result.now ∷ [])
-    × (c.in_ok-sizes.sizes ≡ record { rows = number_of c.deref.result.now; capacity = number_of c.deref-2.result.now; units = number_of c.deref-3.result.now; drop = dropped (shown c.args.lead.now); counted = c.args.lead.now.counted })
+    × (c.in_ok-sizes.sizes ≡ sizes_of (shown c.args.lead.now) c.deref.result.now c.deref-2.result.now c.deref-3.result.now)
 after_sizes c = AreRead-given (shown c.args.lead.now) sizes _ _ _ refl (sym c.read_sizes.ensures ∙ c.in_ok-sizes.was)
 
 -- and the seed

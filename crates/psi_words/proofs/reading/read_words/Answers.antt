@@ -1,5 +1,5 @@
 use Rattle.std.proofs.Common.{◌≡◌, drop, map, string_bytes, sym, ap, ◌∙◌}
-use Rattle.psi_words.specs.Grammar.{judged, lead_forms}
+use Rattle.psi_words.specs.Grammar.{judged}
 use Rattle.psi_words.specs.Leads.{judged_named, shown}
 use Rattle.psi_words.proofs.Lines.{judged-lead, parts-texts}
 use Rattle.psi_words.proofs.reading.read_words.Goals as goal

@@ -1,7 +1,6 @@
-use Rattle.std.proofs.Common.{◌≡◌, ◌∷◌, [], map, string_bytes, Ok, Err, refl, sym, ap, ◌∙◌}
-use Rattle.psi_words.specs.Forms.{number_of}
-use Rattle.psi_words.specs.Grammar.{dropped, replay_row, sizes}
-use Rattle.psi_words.specs.Leads.{shown}
+use Rattle.std.proofs.Common.{◌≡◌, ◌∷◌, [], map, string_bytes, refl, sym, ap, ◌∙◌}
+use Rattle.psi_words.specs.Grammar.{replay_row, sizes}
+use Rattle.psi_words.specs.Leads.{shown, sizes_of}
 use Rattle.psi_words.proofs.Behind.{AreRead, AreRead-given, gives-Ok, gives-fault, hands_on}
 use Rattle.psi_words.proofs.Elements.{three_are}
 use Rattle.psi_words.proofs.reading.replay.Goals as goal
@@ -22,7 +21,7 @@ returns-in_err-sizes-clause-judged c =
 
 -- the sizes were read
 after_sizes : (c : In_ok-sizes) → AreRead (shown c.args.lead.now) sizes (c.deref.result.now ∷ c.deref-2.result.now ∷ c.deref-3.result.now ∷ [])
-    × (c.in_ok-sizes.sizes ≡ record { rows = number_of c.deref.result.now; capacity = number_of c.deref-2.result.now; units = number_of c.deref-3.result.now; drop = dropped (shown c.args.lead.now); counted = c.args.lead.now.counted })
+    × (c.in_ok-sizes.sizes ≡ sizes_of (shown c.args.lead.now) c.deref.result.now c.deref-2.result.now c.deref-3.result.now)
 after_sizes c = AreRead-given (shown c.args.lead.now) sizes _ _ _ refl (sym c.read_sizes.ensures ∙ c.in_ok-sizes.was)
 
 pub returns-clause-judged : goal.returns-clause-judged

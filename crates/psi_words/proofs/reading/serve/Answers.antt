@@ -1,9 +1,8 @@
-use Rattle.std.proofs.Common.{◌≡◌, ◌∷◌, [], ◌++◌, map, string_bytes, Ok, Err, refl, sym, ap, ◌∙◌}
+use Rattle.std.proofs.Common.{◌≡◌, ◌∷◌, [], ◌++◌, map, string_bytes, refl, sym, ap, ◌∙◌}
 use Rattle.psi_words.specs.Forms.{number_of}
 use Rattle.psi_words.specs.Forms.Form.{Number}
-use Rattle.psi_words.specs.Grammar.{Line, dropped, serve_row, sizes}
-use Rattle.psi_words.specs.Leads.{judged_behind, shown}
-use Rattle.psi_words.specs.declared.reading.Sizes.{Sizes}
+use Rattle.psi_words.specs.Grammar.{serve_row, sizes}
+use Rattle.psi_words.specs.Leads.{shown, sizes_of}
 use Rattle.psi_words.proofs.Behind.{AreRead, AreRead-given, AreRead-next, gives-Ok, gives-fault, gives-fault_next, hands_on}
 use Rattle.psi_words.proofs.Elements.{five_are}
 use Rattle.psi_words.proofs.reading.serve.Goals as goal
@@ -25,7 +24,7 @@ returns-in_err-sizes-clause-judged c =
 
 -- the sizes were read
 after_sizes : (c : In_ok-sizes) → AreRead (shown c.args.lead.now) sizes (c.deref.result.now ∷ c.deref-2.result.now ∷ c.deref-3.result.now ∷ [])
-    × (c.in_ok-sizes.sizes ≡ record { rows = number_of c.deref.result.now; capacity = number_of c.deref-2.result.now; units = number_of c.deref-3.result.now; drop = dropped (shown c.args.lead.now); counted = c.args.lead.now.counted })
+    × (c.in_ok-sizes.sizes ≡ sizes_of (shown c.args.lead.now) c.deref.result.now c.deref-2.result.now c.deref-3.result.now)
 after_sizes c = AreRead-given (shown c.args.lead.now) sizes _ _ _ refl (sym c.read_sizes.ensures ∙ c.in_ok-sizes.was)
 
 pub returns-in_err-workers-clause-judged : goal.returns-in_err-workers-clause-judged
