@@ -46,7 +46,12 @@ pub fn reply_to(
 }
 
 // Puts an item's tag.
-fn put_reply(alloc: Global, book: &mut Book<NoCache>, tag: Tag, label: Label) -> Result<Reply, AllocError>
+fn put_reply(
+    alloc: Global,
+    book: &mut Book<NoCache>,
+    tag: Tag,
+    label: Label,
+) -> Result<Reply, AllocError>
     requires length { HasLabelLength book.old.parameters label }
     requires room { length book.old.journal < 2 ^ 20 }
     ensures version { OnOk result (version_of book.new ≡ (step (version_of book.old) (Call.Put tag label)).version) }

@@ -55,7 +55,10 @@ fn evaluate_row(
 {
     let mut ciphertexts = Vec::with_capacity(alloc, row.len())?;
     for sight in row {
-        add(&mut ciphertexts, evaluate(alloc, params, bundle_of(sight), query)?)?;
+        add(
+            &mut ciphertexts,
+            evaluate(alloc, params, bundle_of(sight), query)?,
+        )?;
     }
     Ok(ciphertexts)
 }

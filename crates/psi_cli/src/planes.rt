@@ -47,13 +47,7 @@ fn slot_polynomial(
     ensures { IfOk result (λ v. IsSlotPolynomial (parameters_of params.now) bundle.now slot v.items) }
 {
     if slot < 4095 {
-        roots_polynomial(
-            alloc,
-            bundle,
-            params.capacity,
-            slot / 5,
-            (slot % 5) as u8,
-        )
+        roots_polynomial(alloc, bundle, params.capacity, slot / 5, (slot % 5) as u8)
     } else {
         one_polynomial(alloc, params.capacity)
     }

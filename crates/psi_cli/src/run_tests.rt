@@ -116,7 +116,10 @@ fn a_query_of_no_bundle_is_answered(rt: HostRuntime) -> Result<(), Fail> {
 // The reply to the zero query, number 3 at place 2, of one bundle without members: the scale in the first coefficient of c0, by
 // both residues, and zeros.
 fn emptied(alloc: Global) -> Result<Vec<u8>, AllocError> {
-    let mut text = b"\x00\x01\x40\x19\x86\x00\x01\x00\x00\x00\x03\x00\x00\x00\x00\x00\x00\x00\x02\x01\x01\x00\x01\x00\x00\x00\x00\x00\x01".to_vec(alloc)?;
+    let mut text =
+        b"\x00\x01\x40\x19\x86\x00\x01\x00\x00\x00\x03\x00\x00\x00\x00\x00\x00\x00\x02\x01\x01\x00\x01\x00\x00\x00\x00\x00\x01".to_vec(
+            alloc,
+        )?;
     text.extend_from_slice(b"\x04\x01\x4b\xb6\x9c")?;
     text.extend_from_slice(&vec![in alloc; 0; 20475]?)?;
     text.extend_from_slice(b"\x0e\x01\x1e\xb6\x9a")?;

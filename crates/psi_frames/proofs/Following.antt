@@ -134,7 +134,7 @@ lane-follows p v j (round ∷ rounds) k le lt =
     (dite (ℕ_discrete j k)
     (λ same. subst (λ (n : ℕ). FollowsFrom v.count n (first_part p v j round rounds ++ last_part p v j round rounds)) same (follow-first p v j round rounds))
     (λ other. let below : j < k = omega (arith, other, le) in
-      follow-last p v j round rounds k below (lane-follows p (middle p v j round rounds) (j + 1) rounds k (omega (arith, below)) (omega (arith, lt)))))
+    follow-last p v j round rounds k below (lane-follows p (middle p v j round rounds) (j + 1) rounds k (omega (arith, below)) (omega (arith, lt)))))
 
 -- the place of an exchange is no less than the first place of its round
 abbrev pub IsBehind : ℕ → List Exchange → Exchange → Type 0
@@ -154,7 +154,7 @@ lane-from_count p v (n ∷ ns) =
     let more = count-behind v (call_on v n.1) in (
       from-count_by p v n.1 (call_on v n.1),
       each-weaker (λ e. (m : ℕ) → place_of e.reply ≡ Some m → (lane_next v n.1).count ≤ m) (λ e. (m : ℕ) → place_of e.reply ≡ Some m → v.count ≤ m)
-      (λ e h m place. let far = h m place in omega (arith, far, more)) (lane p (lane_next v n.1) ns) (lane-from_count p (lane_next v n.1) ns),
+          (λ e h m place. let far = h m place in omega (arith, far, more)) (lane p (lane_next v n.1) ns) (lane-from_count p (lane_next v n.1) ns),
     )
 
 -- what holds of the requests' rounds holds of the exchanges' rounds

@@ -99,11 +99,11 @@ rises-turn : (p : Parameters) (v : Version) (n : ℕ × Request) (ns : List (ℕ
 rises-turn p v n ns (Some c) far =
     each-weaker (λ e. (y : ℕ) → place_of e.reply ≡ Some y → (step v c).version.count ≤ y) (PlacesRise (turn_by p v n (Some c)))
     (λ e h x y ex ey.
-      let here : place_of (reply_by p v n.1 (Some c)) ≡ Some v.count = place-reply _ _ _ in
-      let same : v.count ≡ x = cc in
-      let more = count-step v c in
-      let behind = h y ey in
-      omega (arith, same, more, behind)) (lane p (step v c).version ns) far
+    let here : place_of (reply_by p v n.1 (Some c)) ≡ Some v.count = place-reply _ _ _ in
+    let same : v.count ≡ x = cc in
+    let more = count-step v c in
+    let behind = h y ey in
+    omega (arith, same, more, behind)) (lane p (step v c).version ns) far
 rises-turn p v n ns None far =
     each-weaker (λ e. (y : ℕ) → place_of e.reply ≡ Some y → v.count ≤ y) (PlacesRise (turn_by p v n None)) (λ e h x y ex ey. absurd (cc)) (lane p v ns) far
 
@@ -214,13 +214,13 @@ recorded-turn p start v done rest n led (Turned.Coded own coded none) = rw none 
 recorded-turn p start v done rest n led (Turned.Full uncoded_here full none) = rw none (λ place a ep ea. absurd (cc))
 recorded-turn p start v done rest n led (Turned.Makes c uncoded_here room calls some) =
     rw some (λ place a ep ea.
-      let here : place_of (reply_by p v n.1 (Some c)) ≡ Some v.count = place-reply _ _ _ in
-      let same : v.count ≡ place = cc in
-      let told = answer-reply (step v c).answer v.count (reply_body p v.rows (query_of n.1)) in
-      let answer : (step v c).answer ≡ a = cc in
-      next_entry done (record { call = c; answer = (step v c).answer }) rest place (led.number ∙ same)
-      ∙ sym (ap (λ (o : Option Call). option_map (λ d. record { call = d; answer = a }) o) (same_call v n.1 c (reply_body p v.rows (query_of n.1)) calls)
-      ∙ ap (λ (b : Answer). Some (record { call = c; answer = b })) (sym answer)))
+    let here : place_of (reply_by p v n.1 (Some c)) ≡ Some v.count = place-reply _ _ _ in
+    let same : v.count ≡ place = cc in
+    let told = answer-reply (step v c).answer v.count (reply_body p v.rows (query_of n.1)) in
+    let answer : (step v c).answer ≡ a = cc in
+    next_entry done (record { call = c; answer = (step v c).answer }) rest place (led.number ∙ same)
+    ∙ sym (ap (λ (o : Option Call). option_map (λ d. record { call = d; answer = a }) o) (same_call v n.1 c (reply_body p v.rows (query_of n.1)) calls)
+    ∙ ap (λ (b : Answer). Some (record { call = c; answer = b })) (sym answer)))
 
 lane-recorded : (p : Parameters) (start v : Version) (done : List Entry) (ns : List (ℕ × Request)) → HasLedTo start done v
     → AllByRecursion (IsRecorded (done ++ lane_history v (seconds ns))) (lane p v ns)
@@ -230,7 +230,7 @@ lane-recorded p start v done (n ∷ ns) led =
     let rest = lane_history (lane_next v n.1) (seconds ns) in (
       recorded-turn p start v done rest n led (turned v n.1),
       subst (λ (history : List Entry). AllByRecursion (IsRecorded history) (lane p (lane_next v n.1) ns)) (append_assoc done (entries_by v (call_on v n.1)) rest)
-      (lane-recorded p start (lane_next v n.1) (done ++ entries_by v (call_on v n.1)) ns (led-further start done v (call_on v n.1) led)),
+          (lane-recorded p start (lane_next v n.1) (done ++ entries_by v (call_on v n.1)) ns (led-further start done v (call_on v n.1) led)),
     )
 
 -- each query is answered from the version at its place
@@ -251,7 +251,7 @@ lane-evaluated p start v done (n ∷ ns) led =
     let rest = lane_history (lane_next v n.1) (seconds ns) in (
       evaluated-turn p start v done (entries_by v (call_on v n.1) ++ rest) n (call_on v n.1) led,
       subst (λ (history : List Entry). AllByRecursion (IsEvaluated p start history) (lane p (lane_next v n.1) ns)) (append_assoc done (entries_by v (call_on v n.1)) rest)
-      (lane-evaluated p start (lane_next v n.1) (done ++ entries_by v (call_on v n.1)) ns (led-further start done v (call_on v n.1) led)),
+          (lane-evaluated p start (lane_next v n.1) (done ++ entries_by v (call_on v n.1)) ns (led-further start done v (call_on v n.1) led)),
     )
 
 -- what a legal history leads to counts its entries

@@ -151,7 +151,7 @@ module _ (p : Parameters) (start : Version) (given history : List Entry) (rounds
         let evaluated = (at (IsEvaluated p start history) served.evaluated).1 in
         let body : (b : List ℕ) → body_of e.reply ≡ Some b → b ≡ reply_body p v.rows (query_of e.request) =
         λ b eb. evaluated x b place eb ∙ ap (λ (w : Version). reply_body p w.rows (query_of e.request))
-          (ap (λ (h : List Entry). version_at start h x) is ∙ version-there start done more v x led (sym here)) in
+        (ap (λ (h : List Entry). version_at start h x) is ∙ version-there start done more v x led (sym here)) in
         let is_reply = is_told e.reply told.0 x (reply_body p v.rows (query_of e.request)) place told.1 (λ n ef. own_from n x ef place) body in
         record {
           same = is_reply ∙ (λ i. reply_of (answer i) (here i) (reply_body p v.rows (query_of e.request))) ∙ ap (reply_by p v e.request) (sym some);
@@ -182,7 +182,7 @@ module _ (p : Parameters) (start : Version) (given history : List Entry) (rounds
           | inl some ↦ absurd (let none_there = none_from (place_of e.reply) no_room in cc)
           | inr refused ↦ refused
         ] in
-        record { same = refused ∙ rw (none, uncoded_here) refl; rest = more; goes_on = ap (λ (o : Option Call). entries_by v o ++ more) (sym none); }
+        record { same = refused ∙ rw (none, uncoded_here) refl; rest = more; goes_on = ap (λ (o : Option Call). entries_by v o ++ more) (sym none) }
     one-turn (Turned.Makes c uncoded_here room calls some) = elim ((at HasPlaceOrIsFull served.placed.others).1 uncoded_here) [
       | inl has ↦ with_place (place_of e.reply) refl has
       | inr refused ↦ absurd (let full = full-turn uncoded_here refused in omega (arith, full, room))
@@ -282,11 +282,11 @@ one-text p start given rounds none_yet legal bytes =
       text_of (lane_replies p begun (requests_of rounds)),
       lane-text p start given rounds none_yet legal each,
       λ text other.
-        let same_sents = same_rest p start given other.history rounds (exchanges rounds other.sents) other.served.served other.one_lane [] (numbered_from 0 rounds) other.sents begun given _ refl
-        (sym (begins_with given other.history other.served.served.history_of.begins)) (record { replayed = refl; number = sym count }) (omega (arith, count)) tt
-        (sorted-numbered 0 rounds) (each-weaker (λ n. n.0 < 0 + length rounds) (λ n. n.0 < length rounds) (λ n lt. omega (arith, lt)) (numbered_from 0 rounds) (few-numbered 0 rounds))
-        (other.served.one_each ∙ ap (map address_of_request) (sym (seconds-numbered 0 rounds))) in
-        other.text_is ∙ ap text_of (same_sents ∙ ap (lane_replies p begun) (seconds-numbered 0 rounds)),
+          let same_sents = same_rest p start given other.history rounds (exchanges rounds other.sents) other.served.served other.one_lane [] (numbered_from 0 rounds) other.sents begun given _ refl
+          (sym (begins_with given other.history other.served.served.history_of.begins)) (record { replayed = refl; number = sym count }) (omega (arith, count)) tt
+          (sorted-numbered 0 rounds) (each-weaker (λ n. n.0 < 0 + length rounds) (λ n. n.0 < length rounds) (λ n lt. omega (arith, lt)) (numbered_from 0 rounds) (few-numbered 0 rounds))
+          (other.served.one_each ∙ ap (map address_of_request) (sym (seconds-numbered 0 rounds))) in
+          other.text_is ∙ ap text_of (same_sents ∙ ap (lane_replies p begun) (seconds-numbered 0 rounds)),
     )
 
 pub lane-of_one : LaneRepliesAreOfOneLane

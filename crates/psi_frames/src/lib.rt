@@ -15,8 +15,8 @@ mod rounds;
 mod writing;
 
 pub use crate::body::Body;
-pub use crate::laws::{no_reply_begins_another, one_text_is_of_one_lane};
 pub use crate::frame::{ASK, DROP, Frame, PUT};
+pub use crate::laws::{no_reply_begins_another, one_text_is_of_one_lane};
 pub use crate::reading::{FramesFault, whole_frames};
 pub use crate::reply::Reply;
 pub use crate::request::{Request, read_request};

@@ -35,7 +35,11 @@ pub enum Request {
         label: Label,
     },
     /// Take the item with this tag out.
-    Drop { session: u16, number: u32, tag: Tag },
+    Drop {
+        session: u16,
+        number: u32,
+        tag: Tag,
+    },
     /// Answer a query: one ciphertext for each row and power.
     Ask {
         session: u16,
@@ -43,9 +47,17 @@ pub enum Request {
         query: Ciphertexts,
     },
     /// Pack a row anew.
-    Repack { session: u16, number: u32, row: u8 },
+    Repack {
+        session: u16,
+        number: u32,
+        row: u8,
+    },
     /// A request that is refused, with the code of its refusal.
-    Bad { session: u16, number: u32, code: u8 },
+    Bad {
+        session: u16,
+        number: u32,
+        code: u8,
+    },
 }
 
 /// The request of a frame of kind 1 to 4, under parameters that pass the check.
@@ -249,9 +261,9 @@ fn short_label(bytes: &[u8]) -> Label
 
 #[cfg(test)]
 mod tests {
-    use super::*;
     ghost use Rattle.std.specs.Prelude.{IfSome};
 
+    use super::*;
     use crate::body::Body;
     use noise_ledger::check;
     use std::test::Fail;

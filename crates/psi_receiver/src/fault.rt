@@ -73,7 +73,6 @@ impl From<AllocError> for OpenFault {
 }
 
 impl From<Unplaced> for OpenFault {
-
     ghost from_gives = { λ unplaced fault. fault ≡ open_unplaced unplaced };
 
     fn from(unplaced: Unplaced) -> OpenFault {

@@ -48,7 +48,6 @@ pub struct Ciphertexts {
 }
 
 impl Model for Ciphertexts {
-
     ghost Value = { List (List (List ℕ)) };
 
     ghost view = { λ c. c.cts.items };

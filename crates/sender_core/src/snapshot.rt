@@ -64,7 +64,6 @@ fn sights<C: Cached + Drop>(alloc: Global, row: &[Shown<C>]) -> Result<Vec<Sight
 }
 
 impl<C: Cached + Drop> Snapshot<C> {
-
     /// The bundles as they stand, for the entry at this place.
     pub(crate) fn of(
         alloc: Global,
