@@ -1,10 +1,11 @@
--- The key of a seed and its encryptions are what an evaluation rests on.
-use Rattle.std.proofs.Common.{ℕ, zero, suc, ◌+◌, ◌*◌, ◌%◌, ◌<◌, ◌≤◌, List, get_or, refl, arith, ℤ, pos, unsigned_abs, ◌-ℤ◌}
-use Rattle.std.specs.List.{range_with_len}
+-- The key of a seed and its encryptions are what an evaluation rests on, and the query has them in its body.
+use Rattle.std.proofs.Common.{ℕ, zero, suc, ◌+◌, ◌*◌, ◌%◌, ◌<◌, ◌≤◌, ◌≡◌, List, length, get_or, refl, arith, ℤ, pos, unsigned_abs, ◌-ℤ◌}
+use Rattle.std.specs.List.{All, range_with_len}
 use Rattle.std.proofs.lemmas.Int.{ints}
 use Rattle.std.proofs.lemmas.List.Elements.{All-map}
 use Rattle.std.proofs.lemmas.List.FromFn.{length-map-range_with_len}
 use Rattle.psi_residue.specs.Numbers.{first_modulus, second_modulus}
+use Rattle.psi_residue.specs.Parameters.{Parameters}
 use Rattle.psi_residue.specs.Polynomials.{IsPolynomial}
 use Rattle.psi_sampler.specs.Sampling.{word, key_stream, key_coefficient, first_mask_residue, second_mask_residue, error_stream, error_coefficient, low_ones}
 use Rattle.psi_sampler.proofs.Drawn.{low_ones-few}
@@ -13,6 +14,10 @@ use Rattle.bfv_core.specs.Encryptions.{IsKey, Carries}
 use Rattle.bfv_core.specs.EncryptedLists.{key_of_seed, hidden, encrypted, first_mask, second_mask}
 use Rattle.psi_residue.proofs.Polynomials.{IsPolynomial-table}
 use Rattle.bfv_core.proofs.Carrying.{carries-encrypted}
+use Rattle.query_codec.specs.Queries.{query_ciphertexts as body_ciphertexts}
+use Rattle.query_codec.proofs.QueryBodies.{query_read_back}
+use Rattle.psi_receiver.specs.declared.placement.Placed.{Placed}
+use Rattle.psi_receiver.specs.Queries.{query_ciphertext, query_ciphertexts, query_of}
 
 ternary : (n : ℕ) → unsigned_abs (pos (n % 3) -ℤ pos 1) ≤ 1
 ternary n = small (n % 3) (omega arith)
@@ -68,3 +73,16 @@ error-small seed c k =
 
 pub encrypted-carries : (seed : List ℕ) (c : ℕ) (plain : List ℕ) → Carries 21 (key_of_seed seed) (encrypted seed c plain) plain
 encrypted-carries seed c plain = carries-encrypted seed c plain (λ k lt. error-small seed c k)
+
+-- ---- the query's ciphertexts, read back from its body
+
+pub length-query : (p : Parameters) (seed : List ℕ) (placed : List Placed) → length (query_ciphertexts p seed placed) ≡ p.rows * p.capacity
+unfolding query_ciphertexts
+length-query p seed placed = length-map-range_with_len (query_ciphertext p.capacity seed placed) 0 (p.rows * p.capacity)
+
+whole-query : (p : Parameters) (seed : List ℕ) (placed : List Placed) → All IsCiphertext (query_ciphertexts p seed placed)
+unfolding query_ciphertexts query_ciphertext
+whole-query p seed placed = All-map IsCiphertext (query_ciphertext p.capacity seed placed) (range_with_len 0 (p.rows * p.capacity)) (λ k d lt. encrypted-ciphertext seed _ _)
+
+pub query-read : (p : Parameters) (seed : List ℕ) (placed : List Placed) → body_ciphertexts p (query_of p seed placed) ≡ query_ciphertexts p seed placed
+query-read p seed placed = query_read_back p (query_ciphertexts p seed placed) (whole-query p seed placed) (length-query p seed placed)

@@ -14,8 +14,7 @@ use Rattle.bin_poly.proofs.Horner.{horner-any_length}
 use Rattle.label_interp.specs.Points.{place_at, value_of}
 use Rattle.label_interp.proofs.Lagrange.{interpolated-past, interpolated-takes}
 use Rattle.item_slots.specs.Tags.{parts, slot_value}
-use Rattle.query_codec.proofs.BigBytes.{big_bytes-big_number}
-use Rattle.query_codec.proofs.Spellings.{bytes_from}
+use Rattle.item_slots.proofs.BigBytes.{bytes_from, written_again}
 use Rattle.psi_bundle.specs.declared.member.Member.{Member}
 use Rattle.psi_bundle.specs.Bins.{roots_of}
 use Rattle.psi_bundle.specs.Histories.{AreBytes}
@@ -82,7 +81,7 @@ pub part-bytes : (p : Parameters) (bin : List Member) (part unit v value : ℕ) 
 part-bytes p bin part unit v value h lt few r e =
     ap (λ (x : ℕ). bytes_high_first 2 (x % 65536)) (e ∙ label-taken p bin part unit v h lt r)
     ∙ ap (bytes_high_first 2) (mod-eq_of_lt (label_value-small label n bytes))
-    ∙ big_bytes-big_number 2 (drop (2 * n) label) (omega (arith, length-drop (2 * n) label, size)) (bytes_from (2 * n) label bytes)
+    ∙ written_again (2 * n) 2 label (omega (arith, size)) bytes
   where
     n : ℕ
     n = 5 * unit + part

@@ -9,7 +9,7 @@ use Rattle.psi_residue.specs.Numbers.{plain_modulus}
 use Rattle.psi_residue.specs.Sums.{sum_below}
 use Rattle.psi_residue.specs.RootPolynomials.{root_value}
 use Rattle.bin_poly.specs.Horner.{horner}
-use Rattle.psi_residue.proofs.Sums.{sum_below-same, sum_below-first}
+use Rattle.psi_residue.proofs.Sums.{sum_below-first, sum_below-same}
 use Rattle.psi_residue.proofs.Congruences.{sum_below-mod, sum_congruent}
 use Rattle.bin_poly.proofs.Horner.{horner-sum}
 use Rattle.bin_poly.proofs.Products.{root_value-below, own-factor}

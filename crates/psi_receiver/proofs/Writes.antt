@@ -142,10 +142,6 @@ ciphertexts-made p seed placed values capacity n some same are number =
         ap (λ (vs : List (List ℕ)). get_or vs (c / p.capacity) []) are
         ∙ get_or-map-range_with_len (row_values placed) 0 p.rows (c / p.capacity) (c / p.capacity) [] ((div-lt_iff_lt-mul some).1 lt) (omega arith)
 
-pub length-query : (p : Parameters) (seed : List ℕ) (placed : List Placed) → length (query_ciphertexts p seed placed) ≡ p.rows * p.capacity
-unfolding query_ciphertexts
-length-query p seed placed = length-map-range_with_len (query_ciphertext p.capacity seed placed) 0 (p.rows * p.capacity)
-
 -- results that are all there are the values
 pub all-there : {X T E : Type 0} (f : X → T) (xs : List X) (rs : List (Result T E)) (ys : List T) → AllZip (λ x r. IfOk r (λ y. y ≡ f x)) xs rs → rs ≡ map Ok ys → ys ≡ map f xs
 all-there f [] [] [] all e = λ i. []

@@ -9,11 +9,12 @@ use Rattle.noise_ledger.specs.Verdicts.{ArePassed}
 use Rattle.psi_bundle.specs.declared.member.Member.{Member}
 use Rattle.psi_bundle.specs.Histories.{AreBytes, HoldBytes}
 use Rattle.psi_bundle.specs.Versions.{Row, Version, IsSound}
+use Rattle.query_codec.specs.Queries.{query_ciphertexts as body_ciphertexts}
 use Rattle.query_codec.specs.Replies.{reply_body}
 use Rattle.psi_receiver.specs.declared.found.Found.{Found}
 use Rattle.psi_receiver.specs.declared.placement.Placed.{Placed}
 use Rattle.psi_receiver.specs.Placements.{placed, position_sets}
-use Rattle.psi_receiver.specs.Queries.{query_ciphertexts}
+use Rattle.psi_receiver.specs.Queries.{query_ciphertexts, query_of}
 use Rattle.psi_receiver.specs.Openings.{opened, reply_of}
 use Rattle.psi_receiver.specs.Findings.{bin_in, found}
 
@@ -24,6 +25,10 @@ reply_to v seed placed = reply_body v.parameters v.rows (query_ciphertexts v.par
 -- what that reply opens to
 abbrev pub opened_from : Version → (seed : List ℕ) → List Placed → List Found
 opened_from v seed placed = opened (reply_of v.parameters seed (reply_to v seed placed)) placed
+
+-- What is read from a query's body are the query's ciphertexts.
+abbrev pub QueriesAreRead : Type 0
+QueriesAreRead = (p : Parameters) (seed : List ℕ) (placed : List Placed) → body_ciphertexts p (query_of p seed placed) ≡ query_ciphertexts p seed placed
 
 -- Of a sound version the reply to a query of tags, with any placement, opens to what is found there.
 abbrev pub OpenedIsFound : Type 0

@@ -33,7 +33,7 @@ impl From<AllocError> for AskFault {
 }
 
 impl From<Unplaced> for AskFault {
-    ghost use Rattle.psi_receiver.specs.Faults.{ask_unplaced, open_unplaced};
+    ghost use Rattle.psi_receiver.specs.Faults.{ask_unplaced};
 
     ghost from_gives = { λ unplaced fault. fault ≡ ask_unplaced unplaced };
 
@@ -73,6 +73,8 @@ impl From<AllocError> for OpenFault {
 }
 
 impl From<Unplaced> for OpenFault {
+    ghost use Rattle.psi_receiver.specs.Faults.{open_unplaced};
+
     ghost from_gives = { λ unplaced fault. fault ≡ open_unplaced unplaced };
 
     fn from(unplaced: Unplaced) -> OpenFault {

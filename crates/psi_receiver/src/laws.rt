@@ -1,4 +1,4 @@
-ghost use Rattle.psi_receiver.specs.Laws.{FoundTakeSlots, ItemsAreFound, MembersAreFound, OpenedIsFound, TagsAreBytes, UnfoundAreMissing};
+ghost use Rattle.psi_receiver.specs.Laws.{FoundTakeSlots, ItemsAreFound, MembersAreFound, OpenedIsFound, QueriesAreRead, TagsAreBytes, UnfoundAreMissing};
 
 /// An item that the set has at a query's place is found by that query, with the label that it has there; and an item that is
 /// found nowhere is not in the set. The set is sound, its tags and labels are bytes, its parameters pass, and the items have
@@ -9,9 +9,11 @@ pub fn items_are_found()
 {}
 
 /// What the reply of a sound set to a query opens to is what is found in the set's bundles, with all labels, for tags with
-/// any placement. It does nothing: the clause is what it is for.
+/// any placement; and what is read from the query's body are the ciphertexts that the reply is made of. It does nothing: the
+/// clauses are what it is for.
 pub fn opened_is_found()
-    ensures { OpenedIsFound }
+    ensures opened { OpenedIsFound }
+    ensures read { QueriesAreRead }
 {}
 
 /// Each placed tag that a sound set has is found in a bundle, with the set's label. It does nothing: the clause is what it is

@@ -1,4 +1,3 @@
-pub mod BigBytes
 pub mod Finding
 pub mod Pieces
 pub mod Residues

@@ -13,7 +13,8 @@ use Rattle.query_codec.specs.Ciphertexts.{AreCiphertexts, residue_in, modulus_at
 use Rattle.query_codec.specs.Queries.{IsQuery, powers_of, query_body, query_fault, query_length, query_ciphertexts}
 use Rattle.query_codec.proofs.Residues.{none_wrong}
 use Rattle.query_codec.proofs.ReadBack.{read_back, AreCiphertexts-written}
-use Rattle.query_codec.proofs.Spellings.{spelled_ciphertexts, bytes_from}
+use Rattle.item_slots.proofs.BigBytes.{bytes_from}
+use Rattle.query_codec.proofs.Spellings.{spelled_ciphertexts}
 
 pointwise-self : (xs : List ℕ) → pointwise nat_eq xs xs ≡ true
 pointwise-self [] = refl

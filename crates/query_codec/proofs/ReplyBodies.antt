@@ -15,12 +15,12 @@ use Rattle.psi_residue.specs.Ciphertexts.{IsCiphertext}
 use Rattle.query_codec.specs.declared.fault.CodecFault.TheVariants as faults
 use Rattle.query_codec.specs.Ciphertexts.{AreCiphertexts, ciphertexts_in, ciphertexts_bytes, wrong_residue}
 use Rattle.query_codec.specs.Replies.{IsReply, row_count, reply_counts, planes_of, reply_head, reply_length, reply_ciphertexts, reply_fault, reply_bytes}
-use Rattle.query_codec.proofs.BigBytes.{big_bytes-big_number}
+use Rattle.item_slots.proofs.BigBytes.{bytes_from, written_again}
 use Rattle.query_codec.proofs.Pieces.{pieces, piece_at, length-pieces}
 use Rattle.query_codec.proofs.QueryBodies.{behind-same, same-pointwise}
 use Rattle.query_codec.proofs.ReadBack.{read_back, AreCiphertexts-written}
 use Rattle.query_codec.proofs.Residues.{none_wrong}
-use Rattle.query_codec.proofs.Spellings.{spelled_ciphertexts, bytes_from}
+use Rattle.query_codec.proofs.Spellings.{spelled_ciphertexts}
 
 -- ---- the numbers of bundles
 
@@ -84,7 +84,7 @@ spelled_counts body rows within each =
     flat_map-map (big_bytes 2) (row_count body) (range_with_len 0 rows)
     ∙ pieces (λ r. big_bytes 2 (row_count body r)) 2 (drop 8 body) rows
     (λ r lt.
-    big_bytes-big_number 2 (drop (8 + 2 * r) body) (omega (arith, length-drop (8 + 2 * r) body)) (bytes_from (8 + 2 * r) body each)
+    written_again (8 + 2 * r) 2 body (omega arith) each
     ∙ ap (λ (ys : List ℕ). take 2 ys) (sym (drop-drop (2 * r) 8 body)))
 
 -- a body is spelled by what it says

@@ -6,16 +6,12 @@ use Rattle.std.proofs.lemmas.List.Folds.{flat_map-map}
 use Rattle.byteorder.specs.Endian.{big_bytes}
 use Rattle.psi_residue.specs.Sums.{table}
 use Rattle.query_codec.specs.Ciphertexts.{AreCiphertexts, residue_in, list_in, ciphertext_in, ciphertexts_in, residue_bytes, ciphertext_bytes, ciphertexts_bytes}
-use Rattle.query_codec.proofs.BigBytes.{big_bytes-big_number}
+use Rattle.item_slots.proofs.BigBytes.{written_again}
 use Rattle.query_codec.proofs.Pieces.{pieces, pieces_of}
-
--- the bytes from a place on are bytes
-pub bytes_from : (k : ℕ) (bytes : List ℕ) → ((i : ℕ) → get_or bytes i 0 < 256) → (i : ℕ) → get_or (drop k bytes) i 0 < 256
-bytes_from k bytes each i = let same = get_or-drop k bytes i 0 in let here = each (k + i) in omega arith
 
 spelled_residue : (bytes : List ℕ) (i : ℕ) → 5 * (i + 1) ≤ length bytes → ((j : ℕ) → get_or bytes j 0 < 256) → big_bytes 5 (residue_in bytes i) ≡ take 5 (drop (5 * i) bytes)
 unfolding residue_in
-spelled_residue bytes i within each = big_bytes-big_number 5 (drop (5 * i) bytes) (omega (arith, length-drop (5 * i) bytes)) (bytes_from (5 * i) bytes each)
+spelled_residue bytes i within each = written_again (5 * i) 5 bytes (omega arith) each
 
 spelled_residues : (bytes : List ℕ) (a n : ℕ) → 5 * (a + n) ≤ length bytes → ((j : ℕ) → get_or bytes j 0 < 256)
     → residue_bytes (table n (λ i. residue_in bytes (a + i))) ≡ take (5 * n) (drop (5 * a) bytes)

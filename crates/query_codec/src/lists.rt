@@ -48,6 +48,8 @@ pub struct Ciphertexts {
 }
 
 impl Model for Ciphertexts {
+    ghost use Rattle.std.specs.Prelude.{List, ℕ};
+
     ghost Value = { List (List (List ℕ)) };
 
     ghost view = { λ c. c.cts.items };

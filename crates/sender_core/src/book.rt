@@ -24,7 +24,7 @@ pub struct Book<C: Cached> {
 }
 
 impl<C: Cached> Model for Book<C> {
-    ghost use Rattle.sender_core.specs.Kept.{Contents, IsConsistent, version_of, start_of, kept_row, row_of, empty_contents, IsAsBefore, IsStep};
+    ghost use Rattle.sender_core.specs.Kept.{Contents, IsConsistent};
     ghost use Rattle.sender_core.specs.States.{contents_of};
 
     ghost Value = { Contents C };
@@ -41,6 +41,7 @@ impl<C: Cached + Drop> Book<C> {
     ghost use Rattle.psi_bundle.specs.declared.history.Answer.TheVariants.{Seen};
     ghost use Rattle.noise_ledger.specs.Verdicts.{ArePassed, parameters_of};
     ghost use Rattle.psi_bundle.specs.Versions.{HasLabelLength};
+    ghost use Rattle.sender_core.specs.Kept.{version_of, start_of, kept_row, row_of, empty_contents, IsAsBefore, IsConsistent, IsStep};
     ghost use Rattle.psi_residue.specs.Parameters.{parameter_bytes};
     ghost use Rattle.psi_bundle.specs.Shows.{packed_bins};
     ghost use Rattle.sender_core.specs.Given.{row_sight_of, IsViewOf, IsJobOf};

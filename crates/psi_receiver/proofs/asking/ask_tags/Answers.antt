@@ -1,6 +1,6 @@
 use Rattle.std.proofs.Common.{length, ap, ◌∙◌}
 use Rattle.noise_ledger.specs.Verdicts.{parameters_of}
-use Rattle.psi_receiver.proofs.Writes.{length-query}
+use Rattle.psi_receiver.proofs.Encryptions.{length-query}
 use Rattle.psi_receiver.proofs.asking.ask_tags.Goals as goal
 
 pub write_query-requires-clause-number : goal.write_query-requires-clause-number
