@@ -1,0 +1,2 @@
+pub mod RootChanges
+pub mod BinChanges
