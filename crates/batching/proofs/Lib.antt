@@ -1,4 +1,1 @@
-pub mod Roots
-pub mod Inversion
 pub mod Batches
-pub mod Walks

@@ -1,19 +1,10 @@
-ghost use Rattle.std.specs.Prelude.{◌≡◌, ◌*◌, ◌%◌, ◌<◌, ◌^◌, length, slice_index};
+ghost use Rattle.std.specs.Prelude.{◌≡◌, ◌<◌, length};
 ghost use Rattle.psi_residue.specs.Numbers.{plain_modulus, ring_degree};
 ghost use Rattle.psi_residue.specs.Polynomials.{IsPolynomial};
 ghost use Rattle.psi_residue.specs.Slots.{packed_list, slots_of};
-ghost use Rattle.psi_residue.specs.Sums.{sum_below};
 
-use psi_residue::T;
-
-// The root, whose 4096th power is -1 modulo `T`: the slots are the values at its odd powers.
-const ROOT: u64 = 6561;
-
-// The inverse of the root modulo `T`.
-const ROOT_INVERSE: u64 = 58355;
-
-// The inverse of 4096 modulo `T`.
-const DEGREE_INVERSE: u64 = 65521;
+use negacyclic::{forward, inverse};
+use psi_residue::{Modulus, N};
 
 /// Writes the polynomial whose slot j, its value at the power `2j + 1` of the root modulo `T`, is `values[j]`.
 /// Both slices have 4096 elements, and the values are below `T`. It takes no memory.
@@ -24,12 +15,10 @@ pub fn pack(values: &[u32], out: &mut [u32])
     ensures plaintext { IsPolynomial plain_modulus out.new }
     ensures undone { slots_of out.new ≡ values.now }
 {
-    let mut power = 1;
-    for coefficient in out.iter_mut() {
-        let sum = geometric_sum(values, power, power * power % T);
-        *coefficient = (DEGREE_INVERSE * sum % T) as u32;
-        power = power * ROOT_INVERSE % T;
-    }
+    let mut wide = [0; N];
+    widen(values, &mut wide);
+    inverse(Modulus::T, &mut wide);
+    narrow(&wide, out);
 }
 
 /// Writes the slots of a polynomial: slot j is its value at the power `2j + 1` of the root, modulo `T`.
@@ -41,26 +30,29 @@ pub fn unpack(poly: &[u32], out: &mut [u32])
     ensures plaintext { IsPolynomial plain_modulus out.new }
     ensures undone { packed_list out.new ≡ poly.now }
 {
-    let mut power = ROOT;
-    for slot in out.iter_mut() {
-        *slot = geometric_sum(poly, 1, power) as u32;
-        power = power * (ROOT * ROOT % T) % T;
+    let mut wide = [0; N];
+    widen(poly, &mut wide);
+    forward(Modulus::T, &mut wide);
+    narrow(&wide, out);
+}
+
+// Plaintext values in words of 64 bits.
+fn widen(values: &[u32], out: &mut [u64])
+    requires { length values.now ≡ length out.old }
+    ensures { out.new ≡ values.now }
+{
+    for (i, x) in values.iter().enumerate() {
+        out[i] = u64::from(*x);
     }
 }
 
-// The sum of terms[k] * first * ratio^k, modulo `T`.
-fn geometric_sum(terms: &[u32], first: u64, ratio: u64) -> u64
-    requires terms { IsPolynomial plain_modulus terms.now }
-    requires first_below { first < plain_modulus }
-    requires ratio_below { ratio < plain_modulus }
-    ensures sum { result ≡ sum_below ring_degree (λ k. slice_index terms.now k * (first * ratio ^ k)) % plain_modulus }
-    ensures below { result < plain_modulus }
+// Plaintext values in words of 32 bits.
+fn narrow(values: &[u64], out: &mut [u32])
+    requires plaintexts { IsPolynomial plain_modulus values.now }
+    requires room { length out.old ≡ ring_degree }
+    ensures { out.new ≡ values.now }
 {
-    let mut power = first;
-    let mut sum = 0;
-    for term in terms {
-        sum += u64::from(*term) * power;
-        power = power * ratio % T;
+    for (i, x) in values.iter().enumerate() {
+        out[i] = *x as u32;
     }
-    sum % T
 }

@@ -1,3 +1,4 @@
+pub mod Scaling
 pub mod Carrying
 pub mod FourLists
 pub mod Encrypted

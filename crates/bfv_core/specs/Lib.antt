@@ -1,3 +1,4 @@
 pub mod Encryptions
 pub mod EncryptedLists
 pub mod Evaluations
+pub mod Keys

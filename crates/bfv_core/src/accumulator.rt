@@ -7,8 +7,8 @@ ghost use Rattle.psi_residue.specs.Ciphertexts.{IsCiphertext, list_at, list_modu
 ghost use Rattle.bfv_core.specs.EncryptedLists.{added, scaled, with_plain, with_product, zero_lists};
 
 use crate::ciphertext::{Ciphertext, list_modulus};
-use crate::polynomials::{add_to, write_scaled, write_wide};
-use negacyclic::product_plain;
+use crate::polynomials::{add_scaled_to, add_to, write_wide};
+use crate::products::write_product;
 use psi_residue::N;
 use std::alloc::{AllocError, Global};
 use std::marker::Model;
@@ -93,7 +93,7 @@ fn add_list(sum: &mut Ciphertext, list: u8, p: &[u64], residues: &[u64])
 {
     let m = list_modulus(list);
     let mut term = [0; N];
-    product_plain(m, p, residues, &mut term);
+    write_product(m, p, residues, &mut term);
     add_to(m, sum.residues(list), &mut term);
     sum.set(list, &term);
 }
@@ -107,7 +107,7 @@ fn add_scaled(sum: &mut Ciphertext, list: u8, p: &[u32])
 {
     let m = list_modulus(list);
     let mut term = [0; N];
-    write_scaled(m, p, &mut term);
-    add_to(m, sum.residues(list), &mut term);
+    term.copy_from_slice(sum.residues(list));
+    add_scaled_to(m, p, &mut term);
     sum.set(list, &term);
 }

@@ -1,6 +1,7 @@
 //! Encryption from a seed.
-ghost use Rattle.std.specs.Prelude.{◌≡◌, ◌<◌, ◌*◌, ◌+◌, ◌-◌, ◌%◌, IfOk, pos, length, slice_index_or};
-ghost use Rattle.psi_residue.specs.Numbers.{modulus_of, ring_degree, plain_modulus, scale};
+ghost use Rattle.std.specs.Prelude.{◌≡◌, ◌≢◌, ◌<◌, ◌+◌, ◌-◌, ◌%◌, IfOk, pos, length, slice_index_or};
+ghost use Rattle.psi_residue.specs.Numbers.{modulus_of, ring_degree, plain_modulus};
+ghost use Rattle.psi_residue.specs.declared.numbers.Modulus.TheVariants as moduli;
 ghost use Rattle.psi_residue.specs.Polynomials.{IsPolynomial};
 ghost use Rattle.psi_residue.specs.Residues.{residue_of};
 ghost use Rattle.psi_residue.specs.Ciphertexts.{IsCiphertext};
@@ -9,9 +10,9 @@ ghost use Rattle.bfv_core.specs.EncryptedLists.{key_of_seed, hidden, encrypted};
 
 use crate::ciphertext::Ciphertext;
 use crate::key::SecretKey;
-use crate::polynomials::{residue, scaled, write_residues};
-use negacyclic::product_plain;
-use psi_residue::{Modulus, N, add, sub};
+use crate::polynomials::{add_scaled_to, reduced, residue};
+use crate::products::times_values;
+use psi_residue::{Modulus, N, value};
 use psi_sampler::{error, mask};
 use std::alloc::{AllocError, Global};
 
@@ -50,6 +51,7 @@ pub fn encrypt(
 
 // Writes -a·s + e + Δ·plain modulo `m`, with the mask a, the key s and the error e.
 fn hide(m: Modulus, mask: &[u64], key: &SecretKey, errors: &[i8], plain: &[u32], out: &mut [u64])
+    requires residues { m ≢ moduli.T }
     requires masked { IsPolynomial (modulus_of m) mask.now }
     requires as_many { length errors.now ≡ ring_degree }
     requires plaintext { IsPolynomial plain_modulus plain.now }
@@ -57,20 +59,20 @@ fn hide(m: Modulus, mask: &[u64], key: &SecretKey, errors: &[i8], plain: &[u32],
     ensures hidden { out.new ≡ hidden (modulus_of m) mask.now key.now (λ k. slice_index_or errors.now k (pos 0)) plain.now }
     ensures polynomial { IsPolynomial (modulus_of m) out.new }
 {
-    let mut s = [0; N];
-    write_residues(m, key.coefficients(), &mut s);
-    product_plain(m, mask, &s, out);
-    for (i, x) in plain.iter().enumerate() {
-        out[i] = hidden_coefficient(m, out[i], errors[i], *x);
+    times_values(m, mask, key.values(m), out);
+    for (i, error) in errors.iter().enumerate() {
+        out[i] = masked_error(m, out[i], *error);
     }
+    add_scaled_to(m, plain, out);
 }
 
-// A coefficient of -a·s + e + Δ·plain, from those of a·s, e and the plaintext.
-fn hidden_coefficient(m: Modulus, product: u64, error: i8, plain: u32) -> u64
-    requires reduced { product < modulus_of m }
-    requires plaintext { plain < plain_modulus }
-    ensures sum { result ≡ (residue_of (modulus_of m) error + (modulus_of m - product) + scale * plain) % modulus_of m }
+// An error less a coefficient of the product of mask and key.
+#[inline(always)]
+fn masked_error(m: Modulus, product: u64, error: i8) -> u64
+    requires { product < modulus_of m }
+    ensures difference { result ≡ (residue_of (modulus_of m) error + (modulus_of m - product)) % modulus_of m }
     ensures below { result < modulus_of m }
 {
-    add(m, sub(m, residue(m, error), product), scaled(m, plain))
+    let modulus = value(m);
+    reduced(modulus, residue(m, error) + (modulus - product))
 }

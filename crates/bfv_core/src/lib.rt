@@ -10,6 +10,7 @@ mod encryption;
 mod key;
 pub mod laws;
 mod polynomials;
+mod products;
 
 pub use accumulator::Accumulator;
 pub use ciphertext::Ciphertext;

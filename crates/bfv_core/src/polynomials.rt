@@ -1,11 +1,12 @@
 //! Polynomials modulo one of the moduli.
-ghost use Rattle.std.specs.Prelude.{◌≡◌, ◌*◌, ◌%◌, ◌<◌, length};
+ghost use Rattle.std.specs.Prelude.{◌≡◌, ◌*◌, ◌+◌, ◌%◌, ◌<◌, ◌^◌, length};
 ghost use Rattle.psi_residue.specs.Numbers.{modulus_of, plain_modulus, ring_degree, scale};
 ghost use Rattle.psi_residue.specs.Polynomials.{IsPolynomial};
 ghost use Rattle.psi_residue.specs.Residues.{residue_of, residues_of};
 ghost use Rattle.bfv_core.specs.EncryptedLists.{added, scaled};
 
-use psi_residue::{DELTA, Modulus, add, mul, value};
+use negacyclic::mul_acc;
+use psi_residue::{DELTA, Modulus, N, value};
 
 /// The residue of a small whole number.
 pub fn residue(m: Modulus, x: i8) -> u64
@@ -28,13 +29,14 @@ pub fn write_residues(m: Modulus, xs: &[i8], out: &mut [u64])
     }
 }
 
-/// A number of a plaintext times the scale.
-pub fn scaled(m: Modulus, x: u32) -> u64
-    requires { x < modulus_of m }
-    ensures scaled { result ≡ (scale * x) % modulus_of m }
-    ensures below { result < modulus_of m }
+/// A number below twice the modulus, reduced.
+#[inline(always)]
+pub fn reduced(modulus: u64, x: u64) -> u64
+    requires { x < 2 * modulus }
+    ensures residue { result ≡ x % modulus }
+    ensures below { result < modulus }
 {
-    mul(m, DELTA % value(m), u64::from(x))
+    if x < modulus { x } else { x - modulus }
 }
 
 /// Adds a polynomial to another one.
@@ -44,20 +46,9 @@ pub fn add_to(m: Modulus, a: &[u64], out: &mut [u64])
     ensures sum { out.new ≡ added (modulus_of m) a.now out.old }
     ensures polynomial { IsPolynomial (modulus_of m) out.new }
 {
+    let modulus = value(m);
     for (i, x) in a.iter().enumerate() {
-        out[i] = add(m, *x, out[i]);
-    }
-}
-
-/// The scale times a plaintext.
-pub fn write_scaled(m: Modulus, plain: &[u32], out: &mut [u64])
-    requires plaintext { IsPolynomial plain_modulus plain.now }
-    requires places { length out.now ≡ ring_degree }
-    ensures scaled { out.new ≡ scaled (modulus_of m) plain.now }
-    ensures polynomial { IsPolynomial (modulus_of m) out.new }
-{
-    for (i, x) in plain.iter().enumerate() {
-        out[i] = scaled(m, *x);
+        out[i] = reduced(modulus, *x + out[i]);
     }
 }
 
@@ -69,4 +60,17 @@ pub fn write_wide(plain: &[u32], out: &mut [u64])
     for (i, x) in plain.iter().enumerate() {
         out[i] = u64::from(*x);
     }
+}
+
+/// Adds the scale times a plaintext to a polynomial.
+pub fn add_scaled_to(m: Modulus, plain: &[u32], out: &mut [u64])
+    requires plaintext { IsPolynomial plain_modulus plain.now }
+    requires polynomial { IsPolynomial (modulus_of m) out.now }
+    ensures sum { out.new ≡ added (modulus_of m) out.old (scaled (modulus_of m) plain.now) }
+    ensures polynomial { IsPolynomial (modulus_of m) out.new }
+{
+    let mut wide = [0; N];
+    write_wide(plain, &mut wide);
+    let scales = [DELTA % value(m); N];
+    mul_acc(m, &scales, &wide, out);
 }

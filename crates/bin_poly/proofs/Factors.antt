@@ -1,7 +1,7 @@
 -- Products with (x - a), and quotients by it.
-use Rattle.std.proofs.Common.{◌≡◌, ℕ, zero, suc, ◌+◌, ◌-◌, ◌*◌, ◌%◌, ◌<◌, ◌≤◌, ◌⊎◌, refl, ap, ◌∙◌, sym, inl, inr, arith}
+use Rattle.std.proofs.Common.{◌≡◌, ℕ, zero, suc, ◌+◌, ◌-◌, ◌*◌, ◌/◌, ◌%◌, ◌<◌, ◌≤◌, ◌⊎◌, refl, ap, ◌∙◌, sym, inl, inr, arith}
 use Rattle.std.proofs.lemmas.Bool.{cases_lt}
-use Rattle.std.proofs.Math.Nat.{mod-eq_of_lt, mod-mod, add-mul-mod_self_left}
+use Rattle.std.proofs.Math.Nat.{div-add-mod, mod-eq_of_lt, mod-mod, add-mul-mod_self_left}
 use Rattle.psi_residue.proofs.Congruences.{cancel, sum_congruent, times_congruent, plus_congruent, reduced_inside}
 use Rattle.bin_poly.specs.Roots.{times_root_coefficient}
 use Rattle.bin_poly.specs.Horner.{horner}
@@ -31,11 +31,23 @@ product-at a f (suc k) low none one =
     let e : (65537 - a) * f (suc k) + f k ≡ f k + (65537 - a) * f (suc k) = omega arith in
     ap (λ (u : ℕ). ((65537 - a) * f (suc k) + u) % 65537) before ∙ ap (λ (u : ℕ). u % 65537) e
 
-pub product-written : (a c high low k r : ℕ) (f : ℕ → ℕ) → c ≡ 65537 - a → high ≡ f k → (k ≡ 0 → low ≡ 0) → ((i : ℕ) → i + 1 ≡ k → low ≡ f i)
-    → r ≡ (c * high + low) % 65537 → r ≡ times_root_coefficient a f k
-product-written a c high low k r f c-is high-is none one r-is =
+-- a product taken away is the product with -a added
+taken : (b a high low : ℕ) → b + a ≡ 65537 → (low + (65537 - high * a % 65537)) % 65537 ≡ (b * high + low) % 65537
+taken b a high low e =
+    let product : 65537 * (high * a / 65537) + high * a % 65537 ≡ high * a = div-add-mod (high * a) 65537 in
+    let both : (b + a) * high ≡ 65537 * high = ap (λ (u : ℕ). u * high) e in
+    let whole : low + (65537 - high * a % 65537) + 65537 * high ≡ b * high + low + 65537 * (high * a / 65537 + 1) = omega arith in
+    sym (add-mul-mod_self_left (low + (65537 - high * a % 65537)) 65537 high)
+    ∙ ap (λ (u : ℕ). u % 65537) whole
+    ∙ add-mul-mod_self_left (b * high + low) 65537 (high * a / 65537 + 1)
+
+-- the coefficient as the loop writes it
+pub product-written : (a product high low k r : ℕ) (f : ℕ → ℕ) → a ≤ 65537 → high ≡ f k → (k ≡ 0 → low ≡ 0) → ((i : ℕ) → i + 1 ≡ k → low ≡ f i)
+    → product ≡ high * a % 65537 → r ≡ (low + (65537 - product)) % 65537 → r ≡ times_root_coefficient a f k
+product-written a product high low k r f small high-is none one product-is r-is =
     r-is
-    ∙ ap (λ (u : ℕ). (u * high + low) % 65537) c-is
+    ∙ ap (λ (u : ℕ). (low + (65537 - u)) % 65537) product-is
+    ∙ taken (65537 - a) a high low (omega arith)
     ∙ ap (λ (u : ℕ). ((65537 - a) * u + low) % 65537) high-is
     ∙ product-at a f k low none one
 

@@ -5,6 +5,7 @@
 #![tactic(auto)]
 
 mod laws;
+mod modular;
 mod roots;
 mod values;
 

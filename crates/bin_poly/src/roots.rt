@@ -6,10 +6,7 @@ ghost use Rattle.psi_residue.specs.Polynomials.{value_at};
 ghost use Rattle.psi_residue.specs.RootPolynomials.{root_coefficient};
 ghost use Rattle.bin_poly.specs.Roots.{times_root_coefficient, HasRoots, without};
 
-use crate::values::mul_add;
-
-// The plaintext modulus.
-const MODULUS: u32 = 65537;
+use crate::modular::{add, mul_root, sub};
 
 /// Fills `out` with the product of `(x - a)` over the roots `a`, which is 1 where there are none. `out` is one place
 /// longer than `roots`.
@@ -36,11 +33,10 @@ pub fn times_root(poly: &mut [u32], degree: usize, root: u16)
     ensures above { (k : ℕ) → degree + 1 < k → slice_index poly.new k ≡ 0 }
     ensures below { All (λ c. c < plain_modulus) poly.new }
 {
-    let constant = MODULUS - u32::from(root);
     let mut low = 0;
     for k in 0..degree + 2 {
         let high = poly[k];
-        poly[k] = mul_add(constant, high, low);
+        poly[k] = sub(low, mul_root(high, root));
         low = high;
     }
 }
@@ -62,11 +58,10 @@ pub fn divide_root(poly: &mut [u32], degree: usize, root: u16)
     ensures above { (k : ℕ) → degree ≤ k → slice_index poly.new k ≡ 0 }
     ensures below { All (λ c. c < plain_modulus) poly.new }
 {
-    let root = u32::from(root);
     let mut quotient = 0;
     for k in (0..degree + 1).rev() {
         let old = poly[k];
         poly[k] = quotient;
-        quotient = mul_add(quotient, root, old);
+        quotient = add(mul_root(quotient, root), old);
     }
 }

@@ -1,18 +1,10 @@
 //! Values of polynomials.
-ghost use Rattle.std.specs.Prelude.{◌≡◌, ◌+◌, ◌*◌, ◌%◌, ◌<◌};
+ghost use Rattle.std.specs.Prelude.{◌≡◌, ◌<◌};
 ghost use Rattle.std.specs.List.{All};
 ghost use Rattle.psi_residue.specs.Numbers.{plain_modulus};
 ghost use Rattle.psi_residue.specs.Polynomials.{value_at};
 
-use psi_residue::T;
-
-// `a` times `b` and `c`, modulo the plaintext modulus.
-pub fn mul_add(a: u32, b: u32, c: u32) -> u32
-    ensures value { result ≡ (a * b + c) % plain_modulus }
-    ensures below { result < plain_modulus }
-{
-    ((u64::from(a) * u64::from(b) + u64::from(c)) % T) as u32
-}
+use crate::modular::{add, mul};
 
 /// The value of the polynomial at `x`, modulo 65537, by Horner's rule. The coefficients and `x` are below 65537.
 pub fn eval(coeffs: &[u32], x: u32) -> u32
@@ -23,7 +15,7 @@ pub fn eval(coeffs: &[u32], x: u32) -> u32
 {
     let mut value = 0;
     for k in (0..coeffs.len()).rev() {
-        value = mul_add(value, x, coeffs[k]);
+        value = add(mul(value, x), coeffs[k]);
     }
     value
 }

@@ -1,1 +1,2 @@
 pub mod BigBytes
+pub mod PositionLaws

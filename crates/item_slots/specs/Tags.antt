@@ -1,6 +1,8 @@
 -- Items as tags, slot values and positions. A tag is the front of a SHA-256 digest (FIPS 180-4); numbers in it
 -- are big-endian. An item cut into several field elements: Cong et al., CCS 2021.
-use Rattle.std.specs.Prelude.{ℕ, ◌+◌, ◌*◌, ◌%◌, List, [], ◌∷◌, map, take, drop, nat_lt, nat_eq, if◌then◌else◌}
+use Rattle.std.specs.Prelude.{ℕ, ◌+◌, ◌*◌, ◌%◌, ◌<◌, ◌≤◌, List, [], ◌∷◌, length, map, take, drop, nat_lt, nat_eq, if◌then◌else◌}
+use Rattle.std.specs.List.{All}
+use Rattle.std.specs.List.Sorted.{IsStrictlyIncreasing}
 use Rattle.sha2.specs.Sha256.{sha256}
 use Rattle.byteorder.specs.Endian.{big_number}
 
@@ -41,3 +43,10 @@ rising (x ∷ xs) = with_number x (rising xs)
 -- the positions of a tag: its three numbers without repeats, in rising order
 abbrev pub positions_of : ℕ → List ℕ → List ℕ
 positions_of rows tag = rising (map (position_at rows tag) (0 ∷ 1 ∷ 2 ∷ []))
+
+-- one to three numbers, each below the next and below 3276, which is four rows' bins
+pub record ArePositions (list : List ℕ) : Type 0 where
+  pub some : 1 ≤ length list
+  pub few : length list ≤ 3
+  pub rise : IsStrictlyIncreasing list
+  pub below : All (λ p. p < 3276) list

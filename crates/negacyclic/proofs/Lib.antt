@@ -3,3 +3,17 @@ pub mod Ring
 pub mod Products
 pub mod RingValues
 pub mod RingLaws
+pub mod MinusOnes
+pub mod Parts
+pub mod Shares
+pub mod Crossings
+pub mod Shoup
+pub mod Butterflying
+pub mod Placing
+pub mod Bounds
+pub mod Stages
+pub mod PowerTests
+pub mod RootPowers
+pub mod Inversion
+pub mod TransformLaws
+pub mod Filled

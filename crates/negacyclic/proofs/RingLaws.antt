@@ -119,7 +119,7 @@ product-distribute m n a b c positive la lb =
 -- ---- values
 
 -- where x^n is -1, the value of the product is the product of the values
-product-values : (m n x : ℕ) (a b : List ℕ) → 0 < m → (x ^ n + 1) % m ≡ 0 → length a ≡ n → length b ≡ n
+pub product-values : (m n x : ℕ) (a b : List ℕ) → 0 < m → (x ^ n + 1) % m ≡ 0 → length a ≡ n → length b ≡ n
     → value n x (λ i. get_or (product m n a b) i 0) % m ≡ (value n x (λ i. get_or a i 0) * value n x (λ i. get_or b i 0)) % m
 unfolding value sum_below
 product-values m zero x a b positive minus_one la lb = refl
@@ -129,7 +129,7 @@ product-values m (suc top) x a b positive minus_one la lb =
     ∙ value-ring m top (x ^ suc top) x (λ i. get_or a i 0) (λ i. get_or b i 0) refl
 
 -- of values that are reduced first
-reduced-values : (m x y z : ℕ) → x % m ≡ (y * z) % m → x % m ≡ (y % m * (z % m)) % m
+pub reduced-values : (m x y z : ℕ) → x % m ≡ (y * z) % m → x % m ≡ (y % m * (z % m)) % m
 reduced-values m x y z e = e ∙ mul-mod y z m
 
 value_at-value : (m n x : ℕ) (p : List ℕ) → length p ≡ n → value_at m p x ≡ value n x (λ i. get_or p i 0) % m

@@ -1,1 +1,4 @@
 pub mod Laws
+pub mod Transforms
+pub mod Butterflies
+pub mod Plans

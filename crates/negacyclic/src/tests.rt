@@ -1,10 +1,11 @@
-//! Products that Python's whole numbers gave.
-ghost use Rattle.std.specs.Prelude.{◌<◌, ◌≤◌};
+//! Products that Python's whole numbers gave, and transforms against the double sums.
+ghost use Rattle.std.specs.Prelude.{◌≡◌, ◌<◌, ◌≤◌};
 ghost use Rattle.psi_residue.specs.Numbers.{modulus_of, ring_degree};
 ghost use Rattle.psi_residue.specs.Polynomials.{IsPolynomial};
+ghost use Rattle.psi_residue.specs.Ring.{product};
 
 use super::*;
-use psi_residue::{Modulus, N, Q1, Q2, T, value};
+use psi_residue::{Modulus, N, Q1, Q2, T, mul, value};
 
 // A modulus, two monomials, each as its place and its coefficient, and the one that is their product.
 // The first three rows are x^4095 times x, which is -1.
@@ -77,6 +78,36 @@ fn line(m: Modulus, start: u64, step: u64) -> [u64; N]
     polynomial
 }
 
+// The polynomial whose coefficient i is the power i of a number.
+fn powers(m: Modulus, base: u64) -> [u64; N]
+    requires { base < modulus_of m }
+    ensures { IsPolynomial (modulus_of m) result }
+{
+    let mut polynomial = [1; N];
+    let mut power = 1;
+    for i in 0..N {
+        polynomial[i] = power;
+        power = mul(m, power, base);
+    }
+    polynomial
+}
+
+// The product by values at the odd powers of the root.
+fn product_by_values(m: Modulus, a: &[u64; N], b: &[u64; N]) -> [u64; N]
+    requires first { IsPolynomial (modulus_of m) a.now }
+    requires second { IsPolynomial (modulus_of m) b.now }
+    ensures { result ≡ product (modulus_of m) ring_degree a.now b.now }
+{
+    let mut first = *a;
+    let mut second = *b;
+    let mut sum = [0; N];
+    forward(m, &mut first);
+    forward(m, &mut second);
+    mul_acc(m, &first, &second, &mut sum);
+    inverse(m, &mut sum);
+    sum
+}
+
 #[test]
 fn products_of_monomials(rt: HostRuntime) {
     let mut out = [0; N];
@@ -89,6 +120,7 @@ fn products_of_monomials(rt: HostRuntime) {
         product_plain(m, &monomial(m, i, x), &monomial(m, j, y), &mut out);
         assert_eq!(rt; out[place], want);
         assert_eq!(rt; out.iter().filter(|c| **c != 0).count(), 1);
+        assert!(rt; product_by_values(m, &monomial(m, i, x), &monomial(m, j, y)) == out);
     }
 }
 
@@ -110,8 +142,35 @@ fn products_of_lines(rt: HostRuntime) {
     }
 }
 
+// All greatest coefficients, one coefficient, and coefficients without a pattern.
+#[test]
+fn products_by_values(rt: HostRuntime) {
+    let mut out = [0; N];
+    for m in [Modulus::Q1, Modulus::Q2, Modulus::T] {
+        let greatest = line(m, value(m) - 1, 0);
+        let one = monomial(m, 2049, value(m) - 1);
+        let mixed = powers(m, 43210);
+        for (a, b) in [(&greatest, &greatest), (&one, &mixed), (&mixed, &greatest)] {
+            product_plain(m, a, b, &mut out);
+            assert!(rt; product_by_values(m, a, b) == out);
+        }
+    }
+}
+
+// The values of x are the odd powers of the root: 6561 and, at the end, its inverse.
+#[test]
+fn values_of_x(rt: HostRuntime) {
+    let x = monomial(Modulus::T, 1, 1);
+    let mut values = x;
+    forward(Modulus::T, &mut values);
+    assert_eq!(rt; [values[0], values[4095]], [6561, 58355]);
+    inverse(Modulus::T, &mut values);
+    assert!(rt; values == x);
+}
+
 #[test]
 fn laws(_rt: HostRuntime) {
     values_multiply();
     products_form_a_ring();
+    transforms_multiply();
 }

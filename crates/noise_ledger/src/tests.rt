@@ -86,7 +86,10 @@ fn verdicts(rt: HostRuntime) {
             drop,
             spare,
         };
-        assert!(rt; check(&params) == expected);
+        assert!(rt;
+            check(&params) == expected,
+            "rows {rows}, capacity {capacity}, units {units}"
+        );
     }
 }
 

@@ -6,3 +6,4 @@ pub mod Steps
 pub mod Histories
 pub mod Planes
 pub mod Bodies
+pub mod Shows

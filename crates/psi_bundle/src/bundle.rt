@@ -44,6 +44,14 @@ impl Bundle {
         Ok(Bundle { bins })
     }
 
+    /// The number of its bins, which is 819.
+    pub fn bins(&self) -> u16
+        ensures number { result ≡ length self.now }
+        ensures all { result ≡ 819 }
+    {
+        self.bins.len() as u16
+    }
+
     /// The members of a bin, in their order.
     pub fn members(&self, bin: u16) -> &[Member]
         requires { bin < 819 }

@@ -1,15 +1,20 @@
 -- The loops over frames and requests: what is told so far and what is left are all of it.
-use Rattle.std.specs.Prelude.{◌≡◌, ◌⊎◌, ℕ, ◌+◌, ◌*◌, ◌<◌, ◌≤◌, ◌^◌, Bool, true, false, not, nat_eq, nat_le, IsTrue, List, [], ◌∷◌, ◌++◌, length, take, drop, slice_index_or, Option, None, Some, Result, Ok, Err, IfOk, OnOk, if◌then◌else◌, ⊤}
+use Rattle.std.specs.Prelude.{◌≡◌, ◌⊎◌, ℕ, ◌+◌, ◌*◌, ◌<◌, ◌≤◌, ◌^◌, Bool, true, false, not, ◌&&◌, is_some, nat_eq, nat_le, IsTrue, List, [], ◌∷◌, ◌++◌, length, take, drop, slice_index_or, Option, None, Some, Result, Ok, Err, IfOk, OnOk, if◌then◌else◌, ⊤}
 use Rattle.std.specs.List.{All, AllByRecursion}
-use Rattle.std.proofs.Common.{refl, sym, ap, ◌∙◌, subst, arith, inl, inr, append_assoc, length-append, Vec, Global}
+use Rattle.std.proofs.Common.{refl, sym, ap, ◌∙◌, subst, arith, inl, inr, append_assoc, length-append, Vec, Global, add-one, suc}
 use Rattle.std.proofs.lemmas.Bool.{eqb-true}
 use Rattle.std.proofs.lemmas.Bool.Decides.{nat_tests}
-use Rattle.std.proofs.Common.{add-one}
-use Rattle.std.proofs.lemmas.List.{append-nil, drop-cons}
+use Rattle.std.proofs.Math.Seq.{drop-cons}
+use Rattle.std.proofs.lemmas.List.{append-nil}
 use Rattle.std.proofs.lemmas.List.Elements.{All-from_recursion, All-push, recursion_from_All}
 use Rattle.std.proofs.lemmas.List.FromFn.{length-map-range_with_len}
 use Rattle.psi_residue.specs.Parameters.{Parameters}
-use Rattle.psi_bundle.specs.Versions.{HasLabelLength, Version, empty_version, has_label_length}
+use Rattle.std.specs.FinMap as fin
+use Rattle.psi_bundle.specs.declared.history.Answer.TheVariants as answer
+use Rattle.psi_bundle.specs.declared.history.Call.{Call}
+use Rattle.psi_bundle.specs.declared.history.Call.TheVariants as call
+use Rattle.psi_bundle.specs.Steps.{Step, step, replace, add, remove, repack, next, unchanged, fits}
+use Rattle.psi_bundle.specs.Versions.{HasLabelLength, Version, cells_of, empty_version, greatest_stamp, has_label_length, members_of_row, packed_row, placed, planes_of, row_at}
 use Rattle.query_codec.specs.Ciphertexts.{ciphertext_in, ciphertexts_in}
 use Rattle.query_codec.specs.Queries.{query_ciphertexts, powers_of}
 use Rattle.psi_frames.specs.declared.frame.Frame.{Frame}
@@ -17,9 +22,14 @@ use Rattle.psi_frames.specs.declared.request.Request.{Request}
 use Rattle.psi_frames.specs.declared.request.Request.TheVariants as request
 use Rattle.psi_frames.specs.Frames.{reply_bytes, put_kind, drop_kind, ask_kind, go_kind}
 use Rattle.psi_frames.specs.Inputs.{AreFrames, IsOneRoundAtMost, IsOneRoundInput, IsPutDropAskFrame}
-use Rattle.psi_frames.specs.OneLane.{HasByteCode, lane_next, lane_reply, lane_replies}
+use Rattle.psi_frames.specs.declared.reading.FramesFault.{FramesFault}
+use Rattle.psi_frames.specs.declared.reading.FramesFault.TheVariants as frames
+use Rattle.psi_frames.proofs.Turns.{count-step}
+use Rattle.psi_cli.specs.Serving.{serve_fault}
+use Rattle.psi_cli.specs.declared.serve.ServeFault.TheVariants as serves
+use Rattle.psi_frames.specs.OneLane.{HasByteCode, call_on, version_by, lane_next, lane_reply, lane_replies}
 use Rattle.item_slots.specs.Tags.{tag_of}
-use Rattle.psi_frames.specs.Requests.{asks_behind, ask_code, ask_request, code_of, counted, drop_code, drop_request, has_item, item_of, label_of, number_of, put_code, put_request, request_of, requests_from, session_of, unless_coded}
+use Rattle.psi_frames.specs.Requests.{asks_behind, ask_code, ask_request, code_of, counted, wrong_label, wrong_length, drop_code, drop_request, has_item, item_of, label_of, number_of, put_code, put_request, request_of, requests_from, session_of, unless_coded}
 use Rattle.psi_frames.specs.Rounds.{AreRounds, IsRound, request_rounds}
 use Rattle.psi_frames.specs.Served.{IsOneLaneText, IsOneLaneTextOf, requests_of, text_of}
 use Rattle.psi_frames.proofs.OnlyText.{lane-of_one}
@@ -41,7 +51,7 @@ no_code (Some code) f r e = absurd (cc)
 -- a Put without a code has a label of the set's length
 put-length : (p : Parameters) (body : List ℕ) → put_code p body ≡ None → HasLabelLength p (label_of body)
 put-length p body e = by_item (has_item body) (has_label_length p (label_of body)) refl e where
-  by_item : (item label : Bool) → has_label_length p (label_of body) ≡ label → (if not item then Some 1 else (if label then None else Some 4)) ≡ None → HasLabelLength p (label_of body)
+  by_item : (item label : Bool) → has_label_length p (label_of body) ≡ label → (if not item then Some wrong_length else (if label then None else Some wrong_label)) ≡ None → HasLabelLength p (label_of body)
   by_item false label is e = absurd (cc)
   by_item true false is e = absurd (cc)
   by_item true true is e = eqb-true (length (label_of body)) (10 * p.units) is
@@ -62,14 +72,37 @@ servable-drop p f e = subst (IsServable p) (sym (unless-none (drop_code f.body) 
 servable-ask : (p : Parameters) (f : Frame) → code_of (ask_request p f) ≡ None → IsServable p (ask_request p f)
 servable-ask p f e = subst (IsServable p) (sym (unless-none (ask_code p f.body) f _ e)) (length-query p f.body)
 
+-- the request of each kind of frame
+request-put : (p : Parameters) (f : Frame) → f.kind ≡ put_kind → request_of p f ≡ put_request p f
+unfolding request_of
+request-put p f is = let test : nat_eq f.kind put_kind ≡ true = ap (λ (k : ℕ). nat_eq k put_kind) is in rw test refl
+
+request-drop : (p : Parameters) (f : Frame) → f.kind ≡ drop_kind → request_of p f ≡ drop_request f
+unfolding request_of
+request-drop p f is =
+    let first : nat_eq f.kind put_kind ≡ false = ap (λ (k : ℕ). nat_eq k put_kind) is in
+    let test : nat_eq f.kind drop_kind ≡ true = ap (λ (k : ℕ). nat_eq k drop_kind) is in
+    rw (first, test) refl
+
+request-ask : (p : Parameters) (f : Frame) → f.kind ≡ ask_kind → request_of p f ≡ ask_request p f
+unfolding request_of
+request-ask p f is =
+    let first : nat_eq f.kind put_kind ≡ false = ap (λ (k : ℕ). nat_eq k put_kind) is in
+    let second : nat_eq f.kind drop_kind ≡ false = ap (λ (k : ℕ). nat_eq k drop_kind) is in
+    let test : nat_eq f.kind ask_kind ≡ true = ap (λ (k : ℕ). nat_eq k ask_kind) is in
+    rw (first, second, test) refl
+
+-- what holds of a request without a code holds of an equal one
+moved : (p : Parameters) (r s : Request) → r ≡ s → (code_of s ≡ None → IsServable p s) → code_of r ≡ None → IsServable p r
+moved p r s same h e = subst (IsServable p) (sym same) (h (sym (ap code_of same) ∙ e))
+
 -- a frame that puts, drops or asks, without a code, is a request that is served
 pub servable-frame : (p : Parameters) (f : Frame) → IsPutDropAskFrame f → code_of (request_of p f) ≡ None → IsServable p (request_of p f)
-unfolding request_of
 servable-frame p f plain = by_kind plain.kind where
   by_kind : (f.kind ≡ put_kind) ⊎ ((f.kind ≡ drop_kind) ⊎ (f.kind ≡ ask_kind)) → code_of (request_of p f) ≡ None → IsServable p (request_of p f)
-  by_kind (inl is) = rw is (servable-put p f)
-  by_kind (inr (inl is)) = rw is (servable-drop p f)
-  by_kind (inr (inr is)) = rw is (servable-ask p f)
+  by_kind (inl is) = moved p (request_of p f) (put_request p f) (request-put p f is) (servable-put p f)
+  by_kind (inr (inl is)) = moved p (request_of p f) (drop_request f) (request-drop p f is) (servable-drop p f)
+  by_kind (inr (inr is)) = moved p (request_of p f) (ask_request p f) (request-ask p f is) (servable-ask p f)
 
 -- an Ask frame that has no code asks
 pub counted-few : (asks : ℕ) (r : Request) → nat_le 32 asks ≡ false → counted asks r ≡ r
@@ -80,30 +113,46 @@ counted-few asks (request.Repack session number row) few = refl
 counted-few asks (request.Bad session number code) few = refl
 
 -- the request of a frame that is not an Ask too many
-not_many : (p : Parameters) (f : Frame) (asks : ℕ) → IsPutDropAskFrame f → (f.kind ≡ ask_kind → nat_le 32 asks ≡ false) → counted asks (request_of p f) ≡ request_of p f
-unfolding request_of
-not_many p f asks plain few = by_kind plain.kind where
-  same_put : (o : Option ℕ) → counted asks (unless_coded o f (request.Put f.session f.number (tag_of (item_of f.body)) (label_of f.body))) ≡ unless_coded o f (request.Put f.session f.number (tag_of (item_of f.body)) (label_of f.body))
-  same_put None = refl
-  same_put (Some code) = refl
-  same_drop : (o : Option ℕ) → counted asks (unless_coded o f (request.Drop f.session f.number (tag_of (item_of f.body)))) ≡ unless_coded o f (request.Drop f.session f.number (tag_of (item_of f.body)))
-  same_drop None = refl
-  same_drop (Some code) = refl
-  by_kind : (f.kind ≡ put_kind) ⊎ ((f.kind ≡ drop_kind) ⊎ (f.kind ≡ ask_kind)) → counted asks (request_of p f) ≡ request_of p f
-  by_kind (inl is) = rw is (same_put (put_code p f.body))
-  by_kind (inr (inl is)) = rw is (same_drop (drop_code f.body))
-  by_kind (inr (inr is)) = counted-few asks (request_of p f) (few is)
+counted-put : (asks : ℕ) (p : Parameters) (f : Frame) (o : Option ℕ) (tag label : List ℕ) → counted asks (unless_coded o f (request.Put f.session f.number tag label)) ≡ unless_coded o f (request.Put f.session f.number tag label)
+counted-put asks p f None tag label = refl
+counted-put asks p f (Some code) tag label = refl
 
-pub counted-plain : (p : Parameters) (f : Frame) (asks : ℕ) → IsPutDropAskFrame f → (f.kind ≡ ask_kind → asks < 32) → counted asks (request_of p f) ≡ request_of p f
-counted-plain p f asks plain few = not_many p f asks plain (λ is. let lt = few is in grind (arith, nat_tests, lt))
+counted-drop : (asks : ℕ) (p : Parameters) (f : Frame) (o : Option ℕ) (tag : List ℕ) → counted asks (unless_coded o f (request.Drop f.session f.number tag)) ≡ unless_coded o f (request.Drop f.session f.number tag)
+counted-drop asks p f None tag = refl
+counted-drop asks p f (Some code) tag = refl
+
+pub counted-plain : (p : Parameters) (f : Frame) (asks : ℕ) → IsPutDropAskFrame f → (nat_eq f.kind ask_kind && nat_le 32 asks) ≡ false → counted asks (request_of p f) ≡ request_of p f
+counted-plain p f asks plain few = by_kind plain.kind where
+  by_kind : (f.kind ≡ put_kind) ⊎ ((f.kind ≡ drop_kind) ⊎ (f.kind ≡ ask_kind)) → counted asks (request_of p f) ≡ request_of p f
+  by_kind (inl is) = ap (counted asks) (request-put p f is) ∙ counted-put asks p f (put_code p f.body) (tag_of (item_of f.body)) (label_of f.body) ∙ sym (request-put p f is)
+  by_kind (inr (inl is)) = ap (counted asks) (request-drop p f is) ∙ counted-drop asks p f (drop_code f.body) (tag_of (item_of f.body)) ∙ sym (request-drop p f is)
+  by_kind (inr (inr is)) =
+      let test : nat_eq f.kind ask_kind ≡ true = ap (λ (k : ℕ). nat_eq k ask_kind) is in
+      counted-few asks (request_of p f) (sym (ap (λ (b : Bool). b && nat_le 32 asks) test) ∙ few)
 
 -- an Ask too many has a code
-pub many-coded : (p : Parameters) (f : Frame) (asks : ℕ) → f.kind ≡ ask_kind → 32 ≤ asks → code_of (counted asks (request_of p f)) ≡ None → ⊥
-unfolding request_of
-many-coded p f asks is many = rw is (by_code (ask_code p f.body) (grind (arith, nat_tests, many))) where
-  by_code : (o : Option ℕ) → nat_le 32 asks ≡ true → code_of (counted asks (unless_coded o f (request.Ask f.session f.number (query_ciphertexts p f.body)))) ≡ None → ⊥
-  by_code None test = rw test (λ e. absurd (cc))
-  by_code (Some code) test = λ e. absurd (cc)
+too-many-coded : (asks : ℕ) (f : Frame) (o : Option ℕ) (query : List (List (List ℕ))) → nat_le 32 asks ≡ true → code_of (counted asks (unless_coded o f (request.Ask f.session f.number query))) ≡ None → ⊥
+too-many-coded asks f None query test = rw test (λ e. absurd (cc))
+too-many-coded asks f (Some code) query test = λ e. absurd (cc)
+
+both_hold : (a b : Bool) → (a && b) ≡ true → (a ≡ true) × (b ≡ true)
+both_hold true b e = (refl, e)
+both_hold false b e = absurd (cc)
+
+pub many-coded : (p : Parameters) (f : Frame) (asks : ℕ) → (nat_eq f.kind ask_kind && nat_le 32 asks) ≡ true → code_of (counted asks (request_of p f)) ≡ None → ⊥
+many-coded p f asks many e =
+    let tests = both_hold (nat_eq f.kind ask_kind) (nat_le 32 asks) many in
+    let is = eqb-true f.kind ask_kind tests.0 in
+    too-many-coded asks f (ask_code p f.body) (query_ciphertexts p f.body) tests.1 (ap (λ (r : Request). code_of (counted asks r)) (sym (request-ask p f is)) ∙ e)
+
+-- whether a request has a code
+pub no_code-tells : (o : Option ℕ) → is_some o ≡ false → o ≡ None
+no_code-tells None e = refl
+no_code-tells (Some code) e = absurd (cc)
+
+pub code-tells : (o : Option ℕ) → is_some o ≡ true → o ≡ None → ⊥
+code-tells None e none = cc
+code-tells (Some code) e none = cc
 
 -- ---- the loop over frames
 
@@ -231,3 +280,41 @@ length-input p bytes fs h =
 -- the number of an input's frames
 pub few-frames : (fs : List Frame) → All IsPutDropAskFrame fs → IsOneRoundAtMost fs → length fs ≤ 4096
 few-frames fs each round = (one_round-bounds fs each round).0
+
+-- of two steps to one set of parameters, either way
+one_of : (b : Bool) (x y : Step) (p : Parameters) → x.version.parameters ≡ p → y.version.parameters ≡ p → (if b then x else y).version.parameters ≡ p
+one_of true x y p e f = e
+one_of false x y p e f = f
+
+-- a step keeps the parameters
+pub parameters-step : (v : Version) (c : Call) → (step v c).version.parameters ≡ v.parameters
+unfolding step
+parameters-step v (call.Put tag label) =
+    let rows = placed v.parameters (v.count + 1) (record { tag = tag; label = label }) v.rows in
+    one_of (is_some (fin.get v.labels tag)) (replace v tag label) (add v tag label rows) v.parameters refl
+    (one_of (fits v.parameters rows) (record { answer = answer.Added; version = next v (fin.insert v.labels tag label) rows })
+    (record { answer = answer.Full (planes_of v.parameters rows) (cells_of v.parameters rows); version = unchanged v }) v.parameters refl refl)
+parameters-step v (call.Drop tag) = one_of (is_some (fin.get v.labels tag)) (remove v tag) (record { answer = answer.Absent; version = unchanged v }) v.parameters refl refl
+parameters-step v call.Ask = refl
+parameters-step v (call.Repack row from) =
+    let packed = packed_row v.parameters.capacity (v.count + 1) (members_of_row (row_at v.rows row)) in
+    one_of (nat_le (greatest_stamp (row_at v.rows row)) from) (repack v row packed)
+    (record { answer = answer.Moved (greatest_stamp (row_at v.rows row)); version = unchanged v }) v.parameters refl refl
+
+-- what a request leaves has these parameters still, and one entry more at most
+pub parameters-next : (v : Version) (r : Request) → (lane_next v r).parameters ≡ v.parameters
+parameters-next v r = by_call (call_on v r) where
+  by_call : (o : Option Call) → (version_by v o).parameters ≡ v.parameters
+  by_call (Some c) = parameters-step v c
+  by_call None = refl
+
+pub count-next : (v : Version) (r : Request) → (lane_next v r).count ≤ v.count + 1
+count-next v r = by_call (call_on v r) where
+  by_call : (o : Option Call) → (version_by v o).count ≤ v.count + 1
+  by_call (Some c) = let one = count-step v c in omega (arith, one)
+  by_call None = omega arith
+
+-- frames are bad where serving says so
+pub bad_frames : (fault : FramesFault) → serve_fault fault ≡ serves.BadInput → fault ≡ frames.Bad
+bad_frames frames.Bad e = refl
+bad_frames frames.NoMemory e = absurd (cc)

@@ -58,7 +58,8 @@ body-of_row p query row capacity shape =
     let size : length seen ≡ length row = length-map (seen_row bundle_bins row) _ ∙ length-map row (seen_of bundle_bins) in
     let planes : row_ciphertexts p query row ≡ evaluated_rows p (seen ∷ []) query =
     ap (λ (q : Parameters). row_ciphertexts q query row) shape ∙ sym (rows-planes capacity query row) ∙ ap (λ (q : Parameters). evaluated_rows q (seen ∷ []) query) (sym shape) in
-    (λ i. reply_bytes p (size (~ i) ∷ []) (planes i))
+    let back = sym size in
+    λ i. reply_bytes p (back i ∷ []) (planes i)
 
 -- and it has 10 bytes, and 81920 for each bundle
 pub body-short : (p : Parameters) (bundles : ℕ) (body : List ℕ) (capacity : ℕ) → p ≡ serve_parameters capacity → bundles ≤ 64 → IsReply p body → reply_counts p body ≡ bundles ∷ [] → length body ≤ 5242890

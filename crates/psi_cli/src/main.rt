@@ -17,14 +17,14 @@ mod words;
 
 use psi_outside::{DiskFiles, Open, ReaderSource, WriterSink};
 use run::psi_run;
-use status::status_line;
+use status::{Status, status_line};
 use std::alloc::Global;
 use std::process::ExitCode;
 use std::{env, io};
 
 fn main(rt: HostRuntime) -> ExitCode {
     let status = match command_words(&rt, rt.alloc()) {
-        Some(words) => {
+        Ok(words) => {
             let mut input = ReaderSource::open(rt.reader());
             let mut output = WriterSink::open(io::writer(&rt));
             let mut files = DiskFiles::open(&rt);
@@ -38,7 +38,7 @@ fn main(rt: HostRuntime) -> ExitCode {
                 &Open,
             )
         }
-        None => 2,
+        Err(status) => status.number(),
     };
     let line = status_line(status);
     if !line.is_empty() {
@@ -47,8 +47,16 @@ fn main(rt: HostRuntime) -> ExitCode {
     ExitCode::from(status)
 }
 
-// The words of the command line behind the program's name; none where they are no text.
-fn command_words(rt: &HostRuntime, alloc: Global) -> Option<Vec<String>> {
-    let args = env::args(rt).ok()?;
-    args.skip(1).collect(alloc).ok()
+// The words of the command line behind the program's name. Words that are no text are no command's.
+fn command_words(rt: &HostRuntime, alloc: Global) -> Result<Vec<String>, Status> {
+    let args = env::args(rt).map_err(|error| status_of(error.kind()))?;
+    args.skip(1).collect(alloc).map_err(|_| Status::NoMemory)
+}
+
+// The status of words that could not be taken.
+fn status_of(kind: io::ErrorKind) -> Status {
+    match kind {
+        io::ErrorKind::OutOfMemory => Status::NoMemory,
+        _ => Status::Words,
+    }
 }

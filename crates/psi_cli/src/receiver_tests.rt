@@ -11,6 +11,7 @@ use psi_bundle::{Label, NoCache};
 use psi_frames::Reply;
 use psi_outside::{MemoryFiles, MemorySink, MemorySource, Open};
 use psi_receiver::{ask, ask_tags, open, open_tags};
+use query_codec::read_query;
 use sender_core::{Book, Put};
 use std::alloc::{AllocError, Global};
 use std::sync::Wait;
@@ -73,7 +74,11 @@ fn found<R: Threads + Sync>(
 {
     let tags = [tag];
     let query = ask_tags(rt, alloc, params, &SEED, &tags).ok()?;
-    let reply = ask_reply(alloc, params, book, 0, &query).ok()?;
+    let powers = read_query(alloc, params, &query).ok()?;
+    if powers.len() != usize::from(params.capacity) {
+        return None;
+    }
+    let reply = ask_reply(alloc, params, book, &powers).ok()?;
     match reply {
         Reply::Answer { body, .. } => {
             let found = open_tags(rt, alloc, params, &SEED, &tags, body.items()).ok()?;

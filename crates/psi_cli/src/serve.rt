@@ -1,13 +1,13 @@
 //! The one-thread sender: requests in, the text of their replies out.
-ghost use Rattle.std.specs.Prelude.{◌≡◌, ◌<◌, ◌≤◌, ◌^◌, ℕ, List, None, ◌∷◌, [], ◌++◌, length, IfOk, OnOk, Err};
+ghost use Rattle.std.specs.Prelude.{◌≡◌, ◌<◌, ◌≤◌, ◌^◌, ℕ, List, None, ◌∷◌, [], ◌++◌, ◌&&◌, nat_eq, nat_le, is_some, length, IfOk, OnOk, Err};
 ghost use Rattle.std.specs.List.{All};
 ghost use Rattle.noise_ledger.specs.Verdicts.{ArePassed, parameters_of};
 ghost use Rattle.psi_bundle.specs.Versions.{empty_version};
 ghost use Rattle.psi_frames.specs.declared.frame.Frame.{Frame};
-ghost use Rattle.psi_frames.specs.Frames.{reply_bytes};
+ghost use Rattle.psi_frames.specs.Frames.{ask_kind, reply_bytes};
 ghost use Rattle.psi_frames.specs.Inputs.{IsOneRoundInput, IsPutDropAskFrame};
 ghost use Rattle.psi_frames.specs.OneLane.{lane_next, lane_reply, lane_replies};
-ghost use Rattle.psi_frames.specs.Requests.{asks_behind, code_of, counted, number_of, request_of, requests_from, session_of};
+ghost use Rattle.psi_frames.specs.Requests.{asks_behind, asks_of_round, code_of, counted, number_of, request_of, requests_from, session_of};
 ghost use Rattle.psi_frames.specs.Served.{text_of};
 ghost use Rattle.sender_core.specs.Kept.{version_of};
 ghost use Rattle.psi_cli.specs.Inputs.{IsServable, serve_parameters};
@@ -107,13 +107,28 @@ fn request(alloc: Global, params: &Params, asks: u32, frame: &Frame) -> Result<R
     ensures servable { IfOk result (IsServable (parameters_of params.now)) }
     ensures bad { result ≡ Err BadInput → code_of (counted asks (request_of (parameters_of params.now) frame.now)) ≡ None → ⊥ }
 {
-    if frame.kind == ASK && asks >= ASKS_OF_ROUND {
+    if is_too_many(asks, frame) {
         return Err(ServeFault::BadInput);
     }
-    match read_request(alloc, params, frame)? {
-        Request::Bad { .. } => Err(ServeFault::BadInput),
-        request => Ok(request),
+    let request = read_request(alloc, params, frame)?;
+    if has_code(&request) {
+        return Err(ServeFault::BadInput);
     }
+    Ok(request)
+}
+
+// Whether the frame is an Ask behind as many Asks as a round answers.
+fn is_too_many(asks: u32, frame: &Frame) -> bool
+    ensures { result ≡ (nat_eq frame.now.kind ask_kind && nat_le asks_of_round asks) }
+{
+    frame.kind == ASK && asks >= ASKS_OF_ROUND
+}
+
+// Whether a request has a code.
+fn has_code(request: &Request) -> bool
+    ensures { result ≡ is_some (code_of request.now) }
+{
+    matches!(request, Request::Bad { .. })
 }
 
 // The Asks behind one more frame.

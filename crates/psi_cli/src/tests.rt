@@ -1,7 +1,6 @@
-//! The words and the requests.
-use crate::requests::{drop_code, item, label, put_code};
+//! The words and the status lines.
+use crate::status::status_line;
 use crate::words::serve_capacity;
-use noise_ledger::Params;
 use std::alloc::{AllocError, Global};
 use std::test::Fail;
 
@@ -41,19 +40,20 @@ fn one_command_is_served(rt: HostRuntime) -> Result<(), Fail> {
 }
 
 #[test]
-fn requests_have_their_codes(rt: HostRuntime) {
-    let params = Params::of(1, 1, 0);
-    let rows: [(&[u8], u8, u8); 5] = [
-        (b"\x03abc", 0, 0),
-        (b"\x00", 0, 0),
-        (b"", 1, 1),
-        (b"\x03ab", 1, 1),
-        (b"\x03abclabel", 4, 1),
+fn each_status_has_its_line(rt: HostRuntime) {
+    let rows: [(u8, &str); 10] = [
+        (0, ""),
+        (1, ""),
+        (2, "psi: words not understood"),
+        (3, "psi: parameters refused"),
+        (4, "psi: bad input"),
+        (5, "psi: read fault"),
+        (6, "psi: write fault"),
+        (7, "psi: no memory"),
+        (8, "psi: items crowded"),
+        (9, ""),
     ];
-    for (body, put, drop) in rows {
-        assert_eq!(rt; put_code(&params, body), put);
-        assert_eq!(rt; drop_code(body), drop);
+    for (status, line) in rows {
+        assert_eq!(rt; status_line(status), line);
     }
-    assert_eq!(rt; item(b"\x03abcde"), b"abc".as_slice());
-    assert_eq!(rt; label(b"\x03abcde"), b"de".as_slice());
 }

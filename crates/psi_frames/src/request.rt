@@ -246,3 +246,68 @@ fn short_label(bytes: &[u8]) -> Label
         None => unreachable!(),
     }
 }
+
+#[cfg(test)]
+mod tests {
+    use super::*;
+    ghost use Rattle.std.specs.Prelude.{IfSome};
+
+    use crate::body::Body;
+    use noise_ledger::check;
+    use std::test::Fail;
+
+    // The parameters, where they pass the check.
+    fn passed(units: u8) -> Option<Params>
+        ensures { IfSome result (λ p. ArePassed (parameters_of p)) }
+    {
+        let params = Params::of(1, 1, units);
+        match check(&params) {
+            Ok(_) => Some(params),
+            Err(_) => None,
+        }
+    }
+
+    // The code of a request with this kind and body, or 0 where it has none.
+    fn code(alloc: Global, params: &Params, kind: u8, body: &[u8]) -> Result<u8, AllocError>
+        requires passed { ArePassed (parameters_of params.now) }
+        requires first { put_kind ≤ kind }
+        requires last { kind ≤ repack_kind }
+    {
+        let frame = Frame {
+            kind,
+            session: 1,
+            number: 1,
+            body: Body::of(Vec::from_slice(alloc, body)?),
+        };
+        match read_request(alloc, params, &frame)? {
+            Request::Bad { code, .. } => Ok(code),
+            _ => Ok(0),
+        }
+    }
+
+    #[test]
+    fn requests_have_their_codes(rt: HostRuntime) -> Result<(), Fail> {
+        let params = passed(0).expect(&rt, "passed parameters");
+        // The kind and the body of a request, and its code.
+        let rows: [(u8, &[u8], u8); 13] = [
+            (1, b"\x03abc", 0),
+            (1, b"\x00", 0),
+            (1, b"", 1),
+            (1, b"\x03ab", 1),
+            (1, b"\x03abclabel", 4),
+            (2, b"\x03abc", 0),
+            (2, b"", 1),
+            (2, b"\x03ab", 1),
+            (2, b"\x03abcd", 1),
+            (3, b"\x01\x01\x00\x01\x00\x00\x00\x00", 1),
+            (4, b"\x00", 0),
+            (4, b"\x01", 5),
+            (4, b"\x00\x00", 1),
+        ];
+        for (kind, body, want) in rows {
+            let found = code(rt.alloc(), &params, kind, body)?;
+            assert_eq!(rt; found, want, "{kind}");
+        }
+        Ok(())
+    }
+}

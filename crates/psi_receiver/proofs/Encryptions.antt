@@ -8,9 +8,10 @@ use Rattle.psi_residue.specs.Numbers.{first_modulus, second_modulus}
 use Rattle.psi_residue.specs.Polynomials.{IsPolynomial}
 use Rattle.psi_sampler.specs.Sampling.{word, key_stream, key_coefficient, first_mask_residue, second_mask_residue, error_stream, error_coefficient, low_ones}
 use Rattle.psi_sampler.proofs.Drawn.{low_ones-few}
-use Rattle.bfv_core.specs.Encryptions.{IsKey, IsCiphertext, Carries}
+use Rattle.psi_residue.specs.Ciphertexts.{IsCiphertext}
+use Rattle.bfv_core.specs.Encryptions.{IsKey, Carries}
 use Rattle.bfv_core.specs.EncryptedLists.{key_of_seed, hidden, encrypted, first_mask, second_mask}
-use Rattle.bfv_core.proofs.Tables.{IsPolynomial-table}
+use Rattle.psi_residue.proofs.Polynomials.{IsPolynomial-table}
 use Rattle.bfv_core.proofs.Carrying.{carries-encrypted}
 
 ternary : (n : ℕ) → unsigned_abs (pos (n % 3) -ℤ pos 1) ≤ 1

@@ -1,135 +1,82 @@
 -- What the reply of a sound set opens to is what is found in its bundles.
-use Rattle.std.proofs.Common.{◌≡◌, ℕ, zero, suc, ◌+◌, ◌*◌, ◌/◌, ◌%◌, ◌<◌, ◌≤◌, Bool, true, ◌&&◌, List, [], ◌∷◌, ◌++◌, length, get_or, map, take, cond, refl, ap, subst, ◌∙◌, sym, inl, inr, arith}
-use Rattle.std.specs.Prelude.{None, Some, nat_eq}
-use Rattle.std.specs.List.{All, filter, list_all, list_any, range_with_len, sum}
-use Rattle.std.proofs.lemmas.Bool.{cases_lt, eq-eqb}
-use Rattle.std.proofs.lemmas.Nat.{mul-le}
-use Rattle.std.proofs.lemmas.List.{get_or_default, length-map, get_or-drop, get_or_past, get_or-map}
-use Rattle.std.proofs.lemmas.List.Elements.{All-map, recursion_from_All}
-use Rattle.std.proofs.lemmas.List.FromFn.{get_or-map-range_with_len, length-map-range_with_len}
+use Rattle.std.proofs.Common.{◌≡◌, ℕ, zero, suc, ◌+◌, ◌*◌, ◌/◌, ◌%◌, ◌<◌, ◌≤◌, Bool, true, false, ◌&&◌, List, [], ◌∷◌, ◌++◌, length, get_or, map, take, drop, cond, refl, ap, subst, ◌∙◌, sym, inl, inr, arith}
+use Rattle.std.specs.Prelude.{Some, nat_eq}
+use Rattle.std.specs.List.{All, Contains, filter, find, flat_map, list_all, list_any, range_with_len, sum}
+use Rattle.std.specs.Int.{bytes_high_first}
+use Rattle.std.proofs.lemmas.Bool.{cases_lt, eq-eqb, ne_eqb}
+use Rattle.std.proofs.lemmas.List.{length-map, get_or_past, get_or-map}
+use Rattle.std.proofs.lemmas.List.Elements.{All-map}
+use Rattle.std.proofs.lemmas.List.FromFn.{get_or-range_with_len, length-range_with_len}
 use Rattle.std.proofs.lemmas.List.Sums.{sum_by_more_le}
+use Rattle.psi_residue.specs.Interpolation.{interpolated}
 use Rattle.psi_residue.specs.Numbers.{plain_modulus}
 use Rattle.psi_residue.specs.Parameters.{Parameters}
 use Rattle.psi_residue.specs.RootPolynomials.{root_value}
 use Rattle.psi_residue.specs.Slots.{slot_of}
+use Rattle.bin_poly.specs.Horner.{horner}
+use Rattle.bin_poly.proofs.Products.{horner-product}
 use Rattle.item_slots.specs.Tags.{parts, slot_value, positions_of}
-use Rattle.item_slots.specs.PositionLaws.{positions-below}
+use Rattle.item_slots.proofs.PositionLaws.{positions-below}
+use Rattle.cuckoo_place.specs.Placements.{IsPlacement}
 use Rattle.noise_ledger.specs.Verdicts.{ArePassed}
-use Rattle.bfv_core.specs.Encryptions.{IsCiphertext, list_at, opening}
+use Rattle.batching.proofs.Batches.{slot-slots_of}
+use Rattle.bfv_core.specs.Encryptions.{opening}
 use Rattle.bfv_core.specs.EncryptedLists.{key_of_seed}
-use Rattle.bfv_core.specs.Evaluations.{evaluated}
 use Rattle.psi_bundle.specs.declared.member.Member.{Member}
 use Rattle.psi_bundle.specs.Bins.{bin_at, roots_of}
-use Rattle.psi_bundle.specs.Bodies.{query_list, reply_body}
-use Rattle.psi_bundle.specs.Planes.{packed_plane}
+use Rattle.psi_bundle.specs.Bodies.{bundle_counts, evaluated_rows}
+use Rattle.psi_bundle.specs.Histories.{AreBytes, HoldBytes}
+use Rattle.psi_bundle.specs.Planes.{label_points, part_coefficient, planes_of_bundle}
 use Rattle.psi_bundle.specs.Versions.{Row, Version, row_at, bins_at, IsSound, IsWithinLimits}
-use Rattle.query_codec.specs.Replies.{reply_bytes, reply_counts, reply_ciphertexts}
-use Rattle.query_codec.proofs.QueryBodies.{query_read_back}
+use Rattle.query_codec.specs.Replies.{reply_body}
 use Rattle.query_codec.proofs.ReplyBodies.{counts_back, reply_read_back}
 use Rattle.psi_receiver.specs.declared.placement.Placed.{Placed}
 use Rattle.psi_receiver.specs.declared.found.Found.{Found}
-use Rattle.psi_receiver.specs.Placements.{least_placement, least_position, placed}
-use Rattle.psi_receiver.specs.Queries.{part_value, bin_value, query_ciphertext, query_ciphertexts, query_of}
-use Rattle.psi_receiver.specs.Openings.{Reply, reply_of, opened_value, opens_in, opened_at, opened_item, opened}
-use Rattle.psi_receiver.specs.Findings.{bin_in, has_roots, found_label, found_item, found}
-use Rattle.psi_receiver.specs.Laws.{AreBytes, HaveByteTags, reply_to}
-use Rattle.psi_receiver.proofs.Encryptions.{encrypted-ciphertext}
-use Rattle.psi_receiver.proofs.Evaluated.{row_ciphertext, root-slot}
-use Rattle.psi_receiver.proofs.Lists.{by_bundle, bundle_counts, length-by_bundle, bundle-at, all-by_bundle}
-use Rattle.psi_receiver.proofs.Replies.{root_ciphertext-whole, root_of, reply_body-is, list_of_query, evaluated-root}
+use Rattle.psi_receiver.specs.Placements.{placed, placed_item, position_sets}
+use Rattle.psi_receiver.specs.Queries.{part_value, bin_value, query_ciphertexts}
+use Rattle.psi_receiver.specs.Openings.{Reply, reply_of, opened_value, opens_in, opened_label, opened_at, opened_item, opened, opened_slots}
+use Rattle.psi_receiver.specs.Findings.{bin_in, has_roots, root_label, found_label, found_at, found_item, found}
+use Rattle.psi_receiver.specs.Laws.{opened_from}
+use Rattle.psi_receiver.proofs.Bins.{IsBin, HasRoot, bins-sound, root-found, roots-small, slot_value-small}
+use Rattle.psi_receiver.proofs.Evaluated.{plane-value}
+use Rattle.psi_receiver.proofs.Labels.{labels-same, part-bytes, root_label-is}
+use Rattle.psi_receiver.proofs.Replies.{all-evaluated, evaluated-at, length-evaluated, plane-within}
 use Rattle.psi_receiver.proofs.RootValues.{zero_at_roots}
-use Rattle.psi_receiver.proofs.Steps.{no-opened_label}
+use Rattle.psi_receiver.proofs.Strangers.{each_of_five}
 
--- ---- slot values
+-- the bins of rows are those of a sound version
+abbrev AreBins : Parameters → List Row → Type 0
+AreBins p rows = (r u b : ℕ) → IsBin p (bin_at (bins_at (row_at rows r) u) b)
 
-pub slot_value-small : (tag : List ℕ) (part : ℕ) → AreBytes tag → slot_value tag part < plain_modulus
-unfolding slot_value
-slot_value-small tag part bytes =
-    let high = get_or-drop (2 * part) tag 0 0 in
-    let low = get_or-drop (2 * part) tag 1 0 in
-    let high_byte = bytes (2 * part + 0) in
-    let low_byte = bytes (2 * part + 1) in
-    omega (arith, high, low, high_byte, low_byte)
-
--- the tags of all members are bytes
-abbrev HaveTags : List Row → Type 0
-HaveTags rows = (r u b : ℕ) → All (λ m. AreBytes m.tag) (bin_at (bins_at (row_at rows r) u) b)
-
-tags-in_rows : (v : Version) → IsSound v → HaveByteTags v.labels → HaveTags v.rows
-tags-in_rows v sound bytes r u b k d lt =
-    let bin : List Member = bin_at (bins_at (row_at v.rows r) u) b in
-    bytes (get_or bin k d).tag (get_or bin k d).label (sound.nothing_else r u b (get_or bin k d) (k, lt, get_or_default bin k (get_or bin k d) d lt)).0
-
--- ---- the query's ciphertexts, read back
-
-whole-query : (p : Parameters) (seed : List ℕ) (placed : List Placed) → All IsCiphertext (query_ciphertexts p seed placed)
-unfolding query_ciphertexts query_ciphertext
-whole-query p seed placed = All-map IsCiphertext (query_ciphertext p.capacity seed placed) (range_with_len 0 (p.rows * p.capacity)) (λ k d lt. encrypted-ciphertext seed _ _)
-
-length-query : (p : Parameters) (seed : List ℕ) (placed : List Placed) → length (query_ciphertexts p seed placed) ≡ p.rows * p.capacity
-unfolding query_ciphertexts
-length-query p seed placed = length-map-range_with_len (query_ciphertext p.capacity seed placed) 0 (p.rows * p.capacity)
-
-query-at : (p : Parameters) (seed : List ℕ) (placed : List Placed) (c : ℕ) → c < p.rows * p.capacity → get_or (query_ciphertexts p seed placed) c [] ≡ query_ciphertext p.capacity seed placed c
-unfolding query_ciphertexts
-query-at p seed placed c lt = get_or-map-range_with_len (query_ciphertext p.capacity seed placed) 0 (p.rows * p.capacity) c c [] lt (omega arith)
-
-number-within : (row k rows capacity : ℕ) → row < rows → k < capacity → row * capacity + k < rows * capacity
-number-within row k rows capacity lt below =
-    let whole : (row + 1) * capacity ≤ rows * capacity = mul-le (row + 1) capacity rows capacity (omega arith) (omega arith) in
-    omega (arith, whole)
-
--- the lists of the ciphertexts of a row
-row_lists : (p : Parameters) (seed : List ℕ) (placed : List Placed) (row k l : ℕ) → row < p.rows → k < p.capacity → l < 4
-    → query_list (query_of p seed placed) (row * p.capacity + k) l ≡ list_at (row_ciphertext p.capacity seed placed row k) l
-row_lists p seed placed row k l lt below few =
-    let within = number-within row k p.rows p.capacity lt below in
-    list_of_query p (query_of p seed placed) (query_ciphertexts p seed placed) (row * p.capacity + k) l
-    (query_read_back p (query_ciphertexts p seed placed) (whole-query p seed placed) (length-query p seed placed)) within few
-    ∙ ap (λ (ct : List (List ℕ)). list_at ct l) (query-at p seed placed (row * p.capacity + k) within)
+-- a reply, by the rows of bundles that it is of
+abbrev reply_by_rows : Parameters → (seed : List ℕ) → List Placed → List Row → Reply
+reply_by_rows p seed placed rows =
+    record { parameters = p; counts = bundle_counts rows; planes = map (opened_slots (key_of_seed seed)) (evaluated_rows p rows (query_ciphertexts p seed placed)) }
 
 -- ---- one part of a bin
 
--- a reply without label units, by the rows of bundles
-abbrev pub reply_by_rows : Parameters → (seed : List ℕ) → List Placed → List Row → Reply
-reply_by_rows p seed placed rows = record { key = key_of_seed seed; units = p.units; counts = bundle_counts rows; ciphertexts = by_bundle (root_of p (query_of p seed placed)) 0 rows }
-
-one_plane : (s v : ℕ) → (s + v) * (1 + 0) + 0 ≡ s + v
-one_plane s v = omega arith
-
-ciphertext-at : (p : Parameters) (seed : List ℕ) (placed : List Placed) (rows : List Row) (row u : ℕ) → p.units ≡ 0 → length rows ≡ p.rows → row < p.rows → u < length (row_at rows row)
-    → get_or (by_bundle (root_of p (query_of p seed placed)) 0 rows) ((sum (take row (bundle_counts rows)) + u) * (1 + p.units) + 0) []
-    ≡ evaluated p.capacity (packed_plane (bins_at (row_at rows row) u) 0) (row_ciphertext p.capacity seed placed row)
-ciphertext-at p seed placed rows row u none many lt within =
-    ap (λ (i : ℕ). get_or (by_bundle (root_of p (query_of p seed placed)) 0 rows) i []) (number (sum (take row (bundle_counts rows))) u p.units none)
-    ∙ bundle-at (root_of p (query_of p seed placed)) 0 rows row u (record { stamp = 0; bins = [] }) [] (omega arith) within
-    ∙ ap (λ (r : ℕ). root_of p (query_of p seed placed) r (get_or (row_at rows row) u (record { stamp = 0; bins = [] }))) first
-    ∙ evaluated-root (query_of p seed placed) (row * p.capacity) p.capacity (bins_at (row_at rows row) u) (row_ciphertext p.capacity seed placed row)
-    (λ k l below few. row_lists p seed placed row k l lt below few)
-  where
-    number : (s v units : ℕ) → units ≡ 0 → (s + v) * (1 + units) + 0 ≡ s + v
-    number s v units e = ap (λ (n : ℕ). (s + v) * (1 + n) + 0) e ∙ one_plane s v
-
-    first : 0 + row ≡ row
-    first = omega arith
-
--- what the part of the bin of a position opens to
-part-value : (p : Parameters) (seed : List ℕ) (placed : List Placed) (rows : List Row) (position u part : ℕ)
-    → ArePassed p → p.units ≡ 0 → length rows ≡ p.rows → position / 819 < p.rows → u < length (row_at rows (position / 819)) → part < 5
-    → length (bin_in rows position u) ≤ p.capacity
-    → opened_value (reply_by_rows p seed placed rows) position u 0 part ≡ root_value (roots_of (bin_in rows position u) part) (bin_value placed position part)
+-- what the part of the bin of a position opens to, in one plane of a bundle
+part-opened : (p : Parameters) (seed : List ℕ) (placed : List Placed) (rows : List Row) (position u plane part : ℕ)
+    → ArePassed p → length rows ≡ p.rows → position / 819 < p.rows → u < length (row_at rows (position / 819)) → plane < planes_of_bundle p → part < 5
+    → opened_value (reply_by_rows p seed placed rows) position u plane part ≡ horner (part_coefficient p (bin_in rows position u) plane part) (bin_value placed position part) (suc p.capacity) 0 % plain_modulus
 unfolding opened_value
-part-value p seed placed rows position u part passed none many lt within few fits =
-    ap (λ (ct : List (List ℕ)). slot_of (opening (key_of_seed seed) ct) (5 * (position % 819) + part)) (ciphertext-at p seed placed rows (position / 819) u none many lt within)
-    ∙ root-slot p seed placed (position / 819) (bins_at (row_at rows (position / 819)) u) (position % 819) part passed (omega arith) few
-    (omega (arith, length-map (bin_in rows position u) (λ (m : Member). slot_value m.tag part), fits))
-    ∙ ap (λ (q : ℕ). root_value (roots_of (bin_in rows position u) part) (bin_value placed q part)) whole
+part-opened p seed placed rows position u plane part passed many lt within few small =
+    ap (λ (slots : List ℕ). get_or slots (5 * (position % 819) + part) 0)
+    (get_or-map (opened_slots (key_of_seed seed)) (evaluated_rows p rows query) number [] [] (plane-within p rows query (position / 819) u plane (omega (arith, many, lt)) within few))
+    ∙ slot-slots_of (opening (key_of_seed seed) (get_or (evaluated_rows p rows query) number [])) (5 * (position % 819) + part) (omega arith)
+    ∙ ap (λ (ct : List (List ℕ)). slot_of (opening (key_of_seed seed) ct) (5 * (position % 819) + part))
+    (evaluated-at p rows query (position / 819) u plane (omega (arith, many, lt)) within few)
+    ∙ plane-value p seed placed (position / 819) plane (bins_at (row_at rows (position / 819)) u) (position % 819) part passed lt (omega arith) small
+    ∙ ap (λ (q : ℕ). horner (part_coefficient p (bin_in rows position u) plane part) (bin_value placed q part) (suc p.capacity) 0 % plain_modulus) whole
   where
+    query : List (List (List ℕ))
+    query = query_ciphertexts p seed placed
+
+    number : ℕ
+    number = (sum (take (position / 819) (bundle_counts rows)) + u) * planes_of_bundle p + plane
+
     whole : 819 * (position / 819) + position % 819 ≡ position
     whole = omega arith
-
-roots-small : (bin : List Member) (part : ℕ) → All (λ m. AreBytes m.tag) bin → All (λ a. a < plain_modulus) (roots_of bin part)
-roots-small bin part bytes = All-map (λ a. a < plain_modulus) (λ m. slot_value m.tag part) bin (λ k d lt. slot_value-small (get_or bin k d).tag part (bytes k d lt))
 
 -- ---- one bundle
 
@@ -138,56 +85,102 @@ each_part f g h = λ i. h 0 (omega arith) i && (h 1 (omega arith) i && (h 2 (ome
 
 -- An item that stands alone at its position opens in a bundle exactly where the bundle's bin has its slot values as roots.
 opens-found : (p : Parameters) (seed : List ℕ) (placed : List Placed) (rows : List Row) (x : Placed) (u : ℕ)
-    → ArePassed p → p.units ≡ 0 → length rows ≡ p.rows → x.position / 819 < p.rows → ((r v b : ℕ) → length (bin_at (bins_at (row_at rows r) v) b) ≤ p.capacity) → HaveTags rows → AreBytes x.tag
+    → ArePassed p → length rows ≡ p.rows → x.position / 819 < p.rows → AreBins p rows → AreBytes x.tag
     → ((part : ℕ) → bin_value placed x.position part ≡ slot_value x.tag part) → u < length (row_at rows (x.position / 819))
     → opens_in (reply_by_rows p seed placed rows) x.position u ≡ has_roots (bin_in rows x.position u) x.tag
 unfolding opens_in has_roots
-opens-found p seed placed rows x u passed none many lt fits tags bytes alone within =
-    each_part (λ part. nat_eq (opened_value (reply_by_rows p seed placed rows) x.position u 0 part) 0) (λ part. list_any (nat_eq (slot_value x.tag part)) (roots_of (bin_in rows x.position u) part)) here
+opens-found p seed placed rows x u passed many lt bins bytes alone within =
+    each_part (λ part. nat_eq (opened_value (reply_by_rows p seed placed rows) x.position u 0 part) 0) (λ part. list_any (nat_eq (slot_value x.tag part)) (roots_of bin part)) here
   where
-    here : (part : ℕ) → part < 5
-        → nat_eq (opened_value (reply_by_rows p seed placed rows) x.position u 0 part) 0 ≡ list_any (nat_eq (slot_value x.tag part)) (roots_of (bin_in rows x.position u) part)
+    bin : List Member
+    bin = bin_in rows x.position u
+
+    h : IsBin p (bin_in rows x.position u)
+    h = bins (x.position / 819) u (x.position % 819)
+
+    here : (part : ℕ) → part < 5 → nat_eq (opened_value (reply_by_rows p seed placed rows) x.position u 0 part) 0 ≡ list_any (nat_eq (slot_value x.tag part)) (roots_of (bin_in rows x.position u) part)
     here part few =
+        let fits = h.fits in
+        let size = length-map bin (λ (m : Member). slot_value m.tag part) in
         ap (λ (value : ℕ). nat_eq value 0)
-        (part-value p seed placed rows x.position u part passed none many lt within few (fits (x.position / 819) u (x.position % 819))
-        ∙ ap (root_value (roots_of (bin_in rows x.position u) part)) (alone part))
-        ∙ zero_at_roots (slot_value x.tag part) (slot_value-small x.tag part bytes) (roots_of (bin_in rows x.position u) part)
-        (recursion_from_All (λ a. a < plain_modulus) (roots_of (bin_in rows x.position u) part) (roots-small (bin_in rows x.position u) part (tags (x.position / 819) u (x.position % 819))))
+        (part-opened p seed placed rows x.position u 0 part passed many lt within (omega arith) few
+        ∙ horner-product (roots_of bin part) (bin_value placed x.position part) (suc p.capacity) (omega (arith, fits, size))
+        ∙ ap (root_value (roots_of bin part)) (alone part))
+        ∙ zero_at_roots (slot_value x.tag part) (slot_value-small x.tag part bytes) (roots_of bin part) (roots-small bin part h.tags)
+
+-- And there its label opens.
+label-found : (p : Parameters) (seed : List ℕ) (placed : List Placed) (rows : List Row) (x : Placed) (u : ℕ)
+    → ArePassed p → length rows ≡ p.rows → x.position / 819 < p.rows → AreBins p rows
+    → ((part : ℕ) → bin_value placed x.position part ≡ slot_value x.tag part) → u < length (row_at rows (x.position / 819))
+    → has_roots (bin_in rows x.position u) x.tag ≡ true
+    → opened_label (reply_by_rows p seed placed rows) x.position u ≡ found_label p (bin_in rows x.position u) x.tag
+unfolding opened_label found_label has_roots
+label-found p seed placed rows x u passed many lt bins alone within has =
+    labels-same (λ unit part. bytes_high_first 2 (opened_value (reply_by_rows p seed placed rows) x.position u (unit + 1) part % 65536))
+    (λ unit part. take 2 (drop (2 * (5 * unit + part)) (root_label (bin_in rows x.position u) x.tag part))) p.units here
+  where
+    bin : List Member
+    bin = bin_in rows x.position u
+
+    root : (part : ℕ) → part < 5 → HasRoot (bin_in rows x.position u) (slot_value x.tag part) part
+    root part few = root-found (slot_value x.tag part) part bin (each_of_five (λ j. list_any (nat_eq (slot_value x.tag j)) (roots_of bin j)) has part few)
+
+    value : (unit part : ℕ) → unit < p.units → part < 5
+        → opened_value (reply_by_rows p seed placed rows) x.position u (unit + 1) part
+        ≡ horner (interpolated (label_points p (bin_in rows x.position u) part unit)) (slot_value x.tag part) (suc p.capacity) 0 % plain_modulus
+    value unit part below few =
+        let next : unit + 1 ≡ suc unit = omega arith in
+        part-opened p seed placed rows x.position u (unit + 1) part passed many lt within (omega arith) few
+        ∙ ap (λ (plane : ℕ). horner (part_coefficient p bin plane part) (bin_value placed x.position part) (suc p.capacity) 0 % plain_modulus) next
+        ∙ ap (λ (v : ℕ). horner (interpolated (label_points p bin part unit)) v (suc p.capacity) 0 % plain_modulus) (alone part)
+
+    here : (unit part : ℕ) → unit < p.units → part < 5
+        → bytes_high_first 2 (opened_value (reply_by_rows p seed placed rows) x.position u (unit + 1) part % 65536)
+        ≡ take 2 (drop (2 * (5 * unit + part)) (root_label (bin_in rows x.position u) x.tag part))
+    here unit part below few =
+        part-bytes p bin part unit (slot_value x.tag part) (opened_value (reply_by_rows p seed placed rows) x.position u (unit + 1) part) (bins (x.position / 819) u (x.position % 819)) few below (root part few)
+        (value unit part below few)
+        ∙ ap (λ (label : List ℕ). take 2 (drop (2 * (5 * unit + part)) label)) (sym (root_label-is bin x.tag part (root part few)))
 
 -- ---- one item
 
-filter-same : (f g : ℕ → Bool) (a n : ℕ) → ((k : ℕ) → a ≤ k → k < a + n → f k ≡ g k) → filter f (range_with_len a n) ≡ filter g (range_with_len a n)
-filter-same f g a zero h = refl
-filter-same f g a (suc n) h =
-    λ i. cond (h a (omega arith) (omega arith) i) (a ∷ filter-same f g (a + 1) n (λ k low high. h k (omega arith) (omega arith)) i) (filter-same f g (a + 1) n (λ k low high. h k (omega arith) (omega arith)) i)
+-- what passes two tests that agree, with values that agree where they pass
+kept_same : (b c : Bool) (x y : Found) (xs ys : List Found) (us vs : List ℕ) → b ≡ c → (c ≡ true → x ≡ y) → xs ≡ ys → (f g : ℕ → Found) (u : ℕ) → f u ≡ x → g u ≡ y → map f us ≡ xs → map g vs ≡ ys
+    → map f (cond b (u ∷ us) us) ≡ map g (cond c (u ∷ vs) vs)
+kept_same true true x y xs ys us vs e here rest f g u fu gu fus gus = λ i. (fu ∙ here refl ∙ sym gu) i ∷ (fus ∙ rest ∙ sym gus) i
+kept_same true false x y xs ys us vs e here rest f g u fu gu fus gus = absurd cc
+kept_same false true x y xs ys us vs e here rest f g u fu gu fus gus = absurd cc
+kept_same false false x y xs ys us vs e here rest f g u fu gu fus gus = fus ∙ rest ∙ sym gus
 
-no-found_label : (units : ℕ) (bin : List Member) (tag : List ℕ) → units ≡ 0 → found_label units bin tag ≡ []
-unfolding found_label
-no-found_label units bin tag none = ap (λ (n : ℕ). found_label n bin tag) none
+made_same : (test other : ℕ → Bool) (f g : ℕ → Found) (a n : ℕ) → ((u : ℕ) → a ≤ u → u < a + n → test u ≡ other u) → ((u : ℕ) → a ≤ u → u < a + n → other u ≡ true → f u ≡ g u)
+    → map f (filter test (range_with_len a n)) ≡ map g (filter other (range_with_len a n))
+made_same test other f g a zero tests values = λ i. []
+made_same test other f g a (suc n) tests values =
+    kept_same (test a) (other a) (f a) (g a) _ _ (filter test (range_with_len (a + 1) n)) (filter other (range_with_len (a + 1) n)) (tests a (omega arith) (omega arith)) (values a (omega arith) (omega arith))
+    (made_same test other f g (a + 1) n (λ u low high. tests u (omega arith) (omega arith)) (λ u low high. values u (omega arith) (omega arith))) f g a refl refl refl refl
 
 item-found : (p : Parameters) (seed : List ℕ) (placed : List Placed) (rows : List Row) (x : Placed)
-    → ArePassed p → p.units ≡ 0 → length rows ≡ p.rows → x.position / 819 < p.rows → ((r v b : ℕ) → length (bin_at (bins_at (row_at rows r) v) b) ≤ p.capacity) → HaveTags rows → AreBytes x.tag
+    → ArePassed p → length rows ≡ p.rows → x.position / 819 < p.rows → AreBins p rows → AreBytes x.tag
     → ((part : ℕ) → bin_value placed x.position part ≡ slot_value x.tag part)
-    → opened_item (reply_by_rows p seed placed rows) x ≡ found_item p.units rows x
+    → opened_item (reply_by_rows p seed placed rows) x ≡ found_item p rows x
 unfolding opened_item found_item
-item-found p seed placed rows x passed none many lt fits tags bytes alone =
-    ap (λ (n : ℕ). map (opened_at reply x) (filter (opens_in reply x.position) (range_with_len 0 n))) (get_or-map (λ row. length row) rows (x.position / 819) [] 0 (omega arith))
-    ∙ ap (map (opened_at reply x)) (filter-same (opens_in reply x.position) (λ u. has_roots (bin_in rows x.position u) x.tag) 0 (length (row_at rows (x.position / 819)))
-    (λ u low high. opens-found p seed placed rows x u passed none many lt fits tags bytes alone (omega arith)))
-    ∙ ap (λ (f : ℕ → Found). map f (filter (λ u. has_roots (bin_in rows x.position u) x.tag) (range_with_len 0 (length (row_at rows (x.position / 819))))))
-    (λ i u. record { item = x.item; bundle = u; label = (no-opened_label reply x.position u none ∙ sym (no-found_label p.units (bin_in rows x.position u) x.tag none)) i })
+item-found p seed placed rows x passed many lt bins bytes alone =
+    ap (λ (n : ℕ). map (opened_at reply x) (filter (opens_in reply x.position) (range_with_len 0 n))) (get_or-map (λ (row : Row). length row) rows (x.position / 819) [] 0 (omega (arith, many, lt)))
+    ∙ made_same (opens_in reply x.position) (λ u. has_roots (bin_in rows x.position u) x.tag) (opened_at reply x) (found_at p rows x) 0 (length (row_at rows (x.position / 819)))
+    (λ u low high. opens-found p seed placed rows x u passed many lt bins bytes alone (omega arith))
+    (λ u low high has i. record { item = x.item; bundle = u; label = label-found p seed placed rows x u passed many lt bins alone (omega arith) has i })
   where
     reply : Reply
     reply = reply_by_rows p seed placed rows
 
 -- ---- the reply's body
 
-small-counts : (rows : List Row) (i units : ℕ) → sum (bundle_counts rows) * (1 + units) ≤ 64 → get_or (bundle_counts rows) i 0 < 65536
-small-counts rows i units limit =
+small-counts : (p : Parameters) (rows : List Row) (i : ℕ) → IsWithinLimits p rows → get_or (bundle_counts rows) i 0 < 65536
+small-counts p rows i limits =
     elim (cases_lt i (length (bundle_counts rows))) [
       | inl lt ↦
           let part = sum_by_more_le (λ (n : ℕ). n) (bundle_counts rows) i 0 lt in
-          let whole : sum (bundle_counts rows) ≤ 64 = few (sum (bundle_counts rows)) units limit in
+          let whole : sum (bundle_counts rows) ≤ 64 = few (sum (bundle_counts rows)) p.units limits.0 in
           omega (arith, part, whole)
       | inr le ↦ rw (get_or_past (bundle_counts rows) i 0 le) (omega arith)
     ]
@@ -195,83 +188,92 @@ small-counts rows i units limit =
     few : (n m : ℕ) → n * (1 + m) ≤ 64 → n ≤ 64
     few n m le = omega (arith, le)
 
-once : (n : ℕ) → n ≡ (1 + 0) * n
-once n = omega arith
-
-one_plane_each : (n m : ℕ) → m ≡ 0 → n ≡ (1 + m) * n
-one_plane_each n m e = once n ∙ ap (λ (k : ℕ). (1 + k) * n) (sym e)
-
-reply-read : (p : Parameters) (seed : List ℕ) (placed : List Placed) (rows : List Row) → p.units ≡ 0 → length rows ≡ p.rows → IsWithinLimits p rows
-    → reply_of p seed (reply_body p rows (query_of p seed placed)) ≡ reply_by_rows p seed placed rows
-reply-read p seed placed rows none many limits =
-    λ i. record { key = key_of_seed seed; units = p.units; counts = counts i; ciphertexts = ciphertexts i }
+reply-read : (p : Parameters) (seed : List ℕ) (placed : List Placed) (rows : List Row) → length rows ≡ p.rows → IsWithinLimits p rows
+    → reply_of p seed (reply_body p rows (query_ciphertexts p seed placed)) ≡ reply_by_rows p seed placed rows
+unfolding reply_body
+reply-read p seed placed rows many limits =
+    λ i. record {
+      parameters = p;
+      counts = counts_back p (bundle_counts rows) cts each_row small i;
+      planes = map (opened_slots (key_of_seed seed)) (reply_read_back p (bundle_counts rows) cts each_row small (length-evaluated p rows query) (all-evaluated p rows query) i);
+    }
   where
-    query : List ℕ
-    query = query_of p seed placed
+    query : List (List (List ℕ))
+    query = query_ciphertexts p seed placed
 
-    body : reply_body p rows query ≡ reply_bytes p (bundle_counts rows) (by_bundle (root_of p query) 0 rows)
-    body = reply_body-is p rows query none
+    cts : List (List (List ℕ))
+    cts = evaluated_rows p rows (query_ciphertexts p seed placed)
 
     each_row : length (bundle_counts rows) ≡ p.rows
     each_row = length-map rows (λ (row : Row). length row) ∙ many
 
-    each : length (by_bundle (root_of p query) 0 rows) ≡ (1 + p.units) * sum (bundle_counts rows)
-    each = length-by_bundle (root_of p query) 0 rows ∙ one_plane_each (sum (bundle_counts rows)) p.units none
+    small : (i : ℕ) → get_or (bundle_counts rows) i 0 < 65536
+    small i = small-counts p rows i limits
 
-    counts : reply_counts p (reply_body p rows query) ≡ bundle_counts rows
-    counts = ap (reply_counts p) body ∙ counts_back p (bundle_counts rows) (by_bundle (root_of p query) 0 rows) each_row (λ i. small-counts rows i p.units limits.0)
+-- ---- placed tags
 
-    ciphertexts : reply_ciphertexts p (reply_body p rows query) ≡ by_bundle (root_of p query) 0 rows
-    ciphertexts =
-        ap (reply_ciphertexts p) body
-        ∙ reply_read_back p (bundle_counts rows) (by_bundle (root_of p query) 0 rows) each_row (λ i. small-counts rows i p.units limits.0) each
-        (all-by_bundle IsCiphertext (root_of p query) 0 rows (λ r u. root_ciphertext-whole query (r * p.capacity) p.capacity u.bins))
+find-placed : (f : ℕ → Placed) (test : Placed → Bool) (a n i : ℕ) → i < n → ((k : ℕ) → a ≤ k → k < a + i → test (f k) ≡ false) → test (f (a + i)) ≡ true → find test (map f (range_with_len a n)) ≡ Some (f (a + i))
+find-placed f test a zero i lt before here = absurd (omega arith)
+find-placed f test a (suc n) zero lt before here =
+    let e : a + 0 ≡ a = omega arith in
+    ap (λ (b : Bool). cond b (Some (f a)) (find test (map f (range_with_len (a + 1) n)))) (ap (λ (k : ℕ). test (f k)) (sym e) ∙ here)
+    ∙ ap (λ (k : ℕ). Some (f k)) (sym e)
+find-placed f test a (suc n) (suc i) lt before here =
+    let e : a + suc i ≡ a + 1 + i = omega arith in
+    ap (λ (b : Bool). cond b (Some (f a)) (find test (map f (range_with_len (a + 1) n)))) (before a (omega arith) (omega arith))
+    ∙ find-placed f test (a + 1) n i (omega arith) (λ k low high. before k (omega arith) (omega arith)) (ap (λ (k : ℕ). test (f k)) (sym e) ∙ here)
+    ∙ ap (λ (k : ℕ). Some (f k)) (sym e)
 
--- ---- at most one tag
-
-least-within : (rows : ℕ) (tag : List ℕ) → 1 ≤ rows → least_position rows tag < 819 * rows
-unfolding least_position
-least-within rows tag some =
-    elim (cases_lt 0 (length (positions_of rows tag))) [
-      | inl lt ↦ positions-below rows tag some 0 0 lt
-      | inr le ↦ rw (get_or_past (positions_of rows tag) 0 0 le) (omega arith)
-    ]
-
-one-placed : (rows : ℕ) (tag : List ℕ) → least_placement rows (tag ∷ []) ≡ record { item = 0; tag = tag; position = least_position rows tag } ∷ []
-unfolding placed
-one-placed rows tag = refl
-
-alone-here : (x : Placed) (part : ℕ) → bin_value (x ∷ []) x.position part ≡ slot_value x.tag part
-unfolding bin_value
-alone-here x part = ap (λ (b : Bool). part_value (cond b (Some x) None) part) (eq-eqb x.position x.position refl)
-
-one-found : (p : Parameters) (seed : List ℕ) (rows : List Row) (x : Placed)
-    → ArePassed p → p.units ≡ 0 → length rows ≡ p.rows → x.position / 819 < p.rows → ((r v b : ℕ) → length (bin_at (bins_at (row_at rows r) v) b) ≤ p.capacity) → HaveTags rows → AreBytes x.tag
-    → opened (reply_by_rows p seed (x ∷ []) rows) (x ∷ []) ≡ found p.units rows (x ∷ [])
-unfolding opened found
-one-found p seed rows x passed none many lt fits tags bytes =
-    ap (λ (xs : List Found). xs ++ []) (item-found p seed (x ∷ []) rows x passed none many lt fits tags bytes (alone-here x))
-
-none-opened : (reply : Reply) (units : ℕ) (rows : List Row) → opened reply [] ≡ found units rows []
-unfolding opened found
-none-opened reply units rows = refl
-
-no-placed : (rows : ℕ) → least_placement rows [] ≡ []
-unfolding placed
-no-placed rows = refl
-
-pub opened-found : (v : Version) (seed : List ℕ) (tags : List (List ℕ))
-    → ArePassed v.parameters → v.parameters.units ≡ 0 → IsSound v → HaveByteTags v.labels → length tags ≤ 1 → All AreBytes tags
-    → opened (reply_of v.parameters seed (reply_to v seed (least_placement v.parameters.rows tags))) (least_placement v.parameters.rows tags)
-    ≡ found v.parameters.units v.rows (least_placement v.parameters.rows tags)
-opened-found v seed [] passed none sound members few bytes =
-    subst (λ (xs : List Placed). opened (reply_of v.parameters seed (reply_to v seed xs)) xs ≡ found v.parameters.units v.rows xs) (sym (no-placed v.parameters.rows))
-    (none-opened (reply_of v.parameters seed (reply_to v seed [])) v.parameters.units v.rows)
-opened-found v seed (tag ∷ []) passed none sound members few bytes =
-    subst (λ (xs : List Placed). opened (reply_of v.parameters seed (reply_to v seed xs)) xs ≡ found v.parameters.units v.rows xs) (sym (one-placed v.parameters.rows tag))
-    (ap (λ (reply : Reply). opened reply (x ∷ [])) (reply-read v.parameters seed (x ∷ []) v.rows none sound.each_row sound.limits)
-    ∙ one-found v.parameters seed v.rows x passed none sound.each_row (omega (arith, least-within v.parameters.rows tag passed.ranges.some_rows)) sound.within_capacity (tags-in_rows v sound members) (bytes 0 [] (omega arith)))
+-- each placed tag stands alone at its position
+placed-alone : (rows : ℕ) (tags : List (List ℕ)) (places : List ℕ) (i part : ℕ) → IsPlacement (position_sets rows tags) places → i < length tags
+    → bin_value (placed tags places) (get_or places i 0) part ≡ slot_value (get_or tags i []) part
+unfolding bin_value placed
+placed-alone rows tags places i part placement lt =
+    ap (λ o. part_value o part)
+    (find-placed (placed_item tags places) (λ x. nat_eq x.position (get_or places i 0)) 0 (length tags) i lt
+    (λ k low high. ne_eqb (get_or places k 0) (get_or places i 0) (placement.apart k i (omega arith) (omega (arith, lt, length-map tags (positions_of rows)))))
+    (eq-eqb (get_or places (0 + i) 0) (get_or places i 0) (ap (λ (k : ℕ). get_or places k 0) first)))
+    ∙ ap (λ (k : ℕ). slot_value (get_or tags k []) part) first
   where
-    x : Placed
-    x = record { item = 0; tag = tag; position = least_position v.parameters.rows tag }
-opened-found v seed (tag ∷ other ∷ tags) passed none sound members few bytes = absurd (omega arith)
+    first : 0 + i ≡ i
+    first = omega arith
+
+-- each position is one of the tag's
+pub placed-own : (rows : ℕ) (tags : List (List ℕ)) (places : List ℕ) (i : ℕ) → IsPlacement (position_sets rows tags) places → i < length tags
+    → Contains (positions_of rows (get_or tags i [])) (get_or places i 0)
+placed-own rows tags places i placement lt =
+    subst (λ (xs : List ℕ). Contains xs (get_or places i 0)) (get_or-map (positions_of rows) tags i [] [] lt)
+    (placement.own i (omega (arith, lt, length-map tags (positions_of rows))))
+
+place-below : (rows : ℕ) (tags : List (List ℕ)) (places : List ℕ) (i : ℕ) → 1 ≤ rows → IsPlacement (position_sets rows tags) places → i < length tags → get_or places i 0 < 819 * rows
+place-below rows tags places i some placement lt =
+    let own = placed-own rows tags places i placement lt in
+    let below = positions-below rows (get_or tags i []) some own.0 (get_or places i 0) own.1 in
+    let same = own.2 in
+    omega (arith, below, same)
+
+pub placed-below : (rows : ℕ) (tags : List (List ℕ)) (places : List ℕ) → 1 ≤ rows → IsPlacement (position_sets rows tags) places → All (λ x. x.position < 819 * rows) (placed tags places)
+unfolding placed
+placed-below rows tags places some placement =
+    All-map (λ (x : Placed). x.position < 819 * rows) (placed_item tags places) (range_with_len 0 (length tags))
+    (λ k d lt.
+    let within : k < length tags = omega (arith, lt, length-range_with_len 0 (length tags)) in
+    let first : 0 + k ≡ k = omega arith in
+    subst (λ (j : ℕ). get_or places j 0 < 819 * rows) (sym (get_or-range_with_len 0 (length tags) k d within ∙ first)) (place-below rows tags places k some placement within))
+
+each_item : (f g : Placed → List Found) (h : ℕ → Placed) (a n : ℕ) → ((i : ℕ) → a ≤ i → i < a + n → f (h i) ≡ g (h i)) → flat_map f (map h (range_with_len a n)) ≡ flat_map g (map h (range_with_len a n))
+each_item f g h a zero same = λ i. []
+each_item f g h a (suc n) same = λ i. same a (omega arith) (omega arith) i ++ each_item f g h (a + 1) n (λ k low high. same k (omega arith) (omega arith)) i
+
+pub opened-found : (v : Version) (seed : List ℕ) (tags : List (List ℕ)) (places : List ℕ)
+    → ArePassed v.parameters → IsSound v → HoldBytes v.labels → All AreBytes tags → IsPlacement (position_sets v.parameters.rows tags) places
+    → opened_from v seed (placed tags places) ≡ found v.parameters v.rows (placed tags places)
+unfolding opened found placed
+opened-found v seed tags places passed sound bytes tag_bytes placement =
+    ap (λ (reply : Reply). flat_map (opened_item reply) (placed tags places)) (reply-read v.parameters seed (placed tags places) v.rows sound.each_row sound.limits)
+    ∙ each_item (opened_item (reply_by_rows v.parameters seed (placed tags places) v.rows)) (found_item v.parameters v.rows) (placed_item tags places) 0 (length tags)
+    (λ i low high.
+    let lt : i < length tags = omega arith in
+    item-found v.parameters seed (placed tags places) v.rows (placed_item tags places i) passed sound.each_row
+    (let below = place-below v.parameters.rows tags places i passed.ranges.some_rows placement lt in omega arith) (bins-sound v sound bytes) (tag_bytes i [] lt)
+    (λ part. placed-alone v.parameters.rows tags places i part placement lt))

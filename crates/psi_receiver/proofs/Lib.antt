@@ -1,10 +1,15 @@
 pub mod Steps
 pub mod RootValues
 pub mod Encryptions
-pub mod Slots
+pub mod SlotValues
 pub mod Evaluated
 pub mod Lists
 pub mod Replies
+pub mod Bins
+pub mod Labels
+pub mod Strangers
 pub mod Joined
 pub mod TagBytes
-pub mod Strangers
+pub mod Members
+pub mod Writes
+pub mod Opened

@@ -1,5 +1,5 @@
--- The evaluation of a bin's root polynomial at a value is 0 exactly where the value is a root.
-use Rattle.std.proofs.Common.{◌≡◌, ℕ, suc, ◌+◌, ◌-◌, ◌*◌, ◌%◌, ◌^◌, ◌<◌, ◌≤◌, List, [], ◌∷◌, length, Bool, eqb, ◌||◌, refl, ap, ◌∙◌, sym, inl, inr, arith}
+-- The value of a polynomial by reduced powers; that of a bin's root polynomial is 0 exactly where the argument is a root.
+use Rattle.std.proofs.Common.{◌≡◌, ℕ, suc, ◌+◌, ◌-◌, ◌*◌, ◌%◌, ◌^◌, ◌<◌, List, [], ◌∷◌, Bool, eqb, ◌||◌, refl, ap, ◌∙◌, sym, inl, inr, arith}
 use Rattle.std.specs.Prelude.{nat_eq}
 use Rattle.std.specs.List.{list_any, AllByRecursion}
 use Rattle.std.proofs.lemmas.Bool.{cases_eq, eq-eqb, ne_eqb}
@@ -7,40 +7,40 @@ use Rattle.std.proofs.lemmas.Nat.{mul-mod_second}
 use Rattle.std.proofs.Math.Nat.{mod-eq_of_lt, pow-zero}
 use Rattle.psi_residue.specs.Numbers.{plain_modulus}
 use Rattle.psi_residue.specs.Sums.{sum_below}
-use Rattle.psi_residue.specs.RootPolynomials.{root_coefficient, root_value}
-use Rattle.psi_residue.proofs.Sums.{sum_below-same}
-use Rattle.bfv_core.proofs.LedgerSums.{sum-first, sum-mod, mod-add}
+use Rattle.psi_residue.specs.RootPolynomials.{root_value}
+use Rattle.bin_poly.specs.Horner.{horner}
+use Rattle.psi_residue.proofs.Sums.{sum_below-same, sum_below-first}
+use Rattle.psi_residue.proofs.Congruences.{sum_below-mod, sum_congruent}
 use Rattle.bin_poly.proofs.Horner.{horner-sum}
-use Rattle.bin_poly.proofs.Products.{horner-product, root_value-below, own-factor}
+use Rattle.bin_poly.proofs.Products.{root_value-below, own-factor}
 use Rattle.bin_poly.proofs.Units.{nonzero_product, difference-positive}
 
 once : (n : ℕ) → n * 1 ≡ n
 once n = omega arith
 
--- the sum of the coefficients times the powers, which are reduced, is the product over the roots
-pub roots-evaluated : (roots : List ℕ) (v capacity : ℕ) → length roots ≤ capacity
-    → (sum_below capacity (λ k. root_coefficient roots (k + 1) * (v ^ (k + 1) % plain_modulus)) + root_coefficient roots 0) % plain_modulus ≡ root_value roots v
-roots-evaluated roots v capacity few =
-    mod-add plain_modulus (sum_below capacity (λ k. root_coefficient roots (k + 1) * (v ^ (k + 1) % plain_modulus))) (sum_below capacity (λ k. term (k + 1)))
-    (root_coefficient roots 0) (root_coefficient roots 0)
-    (sum-mod plain_modulus capacity (λ k. root_coefficient roots (k + 1) * (v ^ (k + 1) % plain_modulus)) (λ k. term (k + 1))
-    (λ k lt. mul-mod_second (root_coefficient roots (k + 1)) (v ^ (k + 1)) plain_modulus))
+-- the sum of coefficients times powers, which are reduced, is the polynomial's value
+pub values-evaluated : (f : ℕ → ℕ) (v capacity : ℕ)
+    → (sum_below capacity (λ k. f (k + 1) * (v ^ (k + 1) % plain_modulus)) + f 0) % plain_modulus ≡ horner f v (suc capacity) 0 % plain_modulus
+values-evaluated f v capacity =
+    sum_congruent plain_modulus (sum_below capacity (λ k. f (k + 1) * (v ^ (k + 1) % plain_modulus))) (sum_below capacity (λ k. term (k + 1)))
+    (f 0) (f 0)
+    (sum_below-mod plain_modulus capacity (λ k. f (k + 1) * (v ^ (k + 1) % plain_modulus)) (λ k. term (k + 1))
+    (λ k lt. mul-mod_second (f (k + 1)) (v ^ (k + 1)) plain_modulus))
     refl
-    ∙ ap (λ (u : ℕ). u % plain_modulus) (whole ∙ sym (horner-sum (root_coefficient roots) v (suc capacity)))
-    ∙ horner-product roots v (suc capacity) (omega arith)
+    ∙ ap (λ (u : ℕ). u % plain_modulus) (whole ∙ sym (horner-sum f v (suc capacity)))
   where
     term : ℕ → ℕ
-    term k = root_coefficient roots k * v ^ k
+    term k = f k * v ^ k
 
     next : (k : ℕ) → term (k + 1) ≡ term (suc k)
     next k = let e : k + 1 ≡ suc k = omega arith in ap term e
 
-    constant : term 0 ≡ root_coefficient roots 0
-    constant = ap (λ (u : ℕ). root_coefficient roots 0 * u) (pow-zero v) ∙ once (root_coefficient roots 0)
+    constant : term 0 ≡ f 0
+    constant = ap (λ (u : ℕ). f 0 * u) (pow-zero v) ∙ once (f 0)
 
-    whole : sum_below capacity (λ k. term (k + 1)) + root_coefficient roots 0 ≡ sum_below (suc capacity) term
+    whole : sum_below capacity (λ k. term (k + 1)) + f 0 ≡ sum_below (suc capacity) term
     whole =
-        let first = sum-first capacity term in
+        let first = sum_below-first capacity term in
         let same = sum_below-same capacity (λ k. term (k + 1)) (λ k. term (suc k)) (λ k lt. next k) in
         omega (arith, first, same, constant)
 

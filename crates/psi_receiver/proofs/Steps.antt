@@ -1,28 +1,20 @@
--- One more item, one more ciphertext, one more bundle.
-use Rattle.std.proofs.Common.{◌≡◌, ℕ, zero, suc, ◌+◌, ◌*◌, ◌/◌, ◌%◌, ◌^◌, ◌<◌, ◌≤◌, List, [], ◌∷◌, ◌++◌, length, get_or, map, take, drop, Bool, true, false, cond, Some, ◌&&◌, refl, ap, ◌∙◌, sym, arith, ℤ}
+-- One more item, one more bundle.
+use Rattle.std.proofs.Common.{◌≡◌, ℕ, suc, ◌+◌, ◌/◌, ◌<◌, ◌≤◌, List, [], ◌∷◌, ◌++◌, length, get_or, map, take, drop, Bool, true, false, cond, Some, ◌&&◌, refl, ap, ◌∙◌, sym, arith}
 use Rattle.std.specs.Prelude.{nat_eq, slice_index}
-use Rattle.std.specs.List.{filter, find, flat_map, list_all, range_with_len, sum}
+use Rattle.std.specs.List.{filter, find, flat_map, list_all, range_with_len}
 use Rattle.std.proofs.lemmas.Bool.{eq-eqb, ne_eqb}
-use Rattle.std.specs.Int.{bytes_high_first}
-use Rattle.std.proofs.lemmas.List.{drop_all, get_or_default, get_or-map, take_more, append-nil}
-use Rattle.std.proofs.lemmas.List.Sums.{sum_by_more_le}
+use Rattle.std.proofs.lemmas.List.{drop_all, get_or-map, take_more, append-nil}
 use Rattle.std.proofs.lemmas.Grind.{flat_map-append}
 use Rattle.std.proofs.lemmas.List.Folds.{list_all_at}
-use Rattle.std.proofs.lemmas.List.FromFn.{map-range_with_len_more, length-map-range_with_len}
+use Rattle.std.proofs.lemmas.List.FromFn.{map-range_with_len_more}
 use Rattle.std.proofs.Math.Seq.{drop-cons}
-use Rattle.psi_residue.specs.Parameters.{Parameters}
-use Rattle.psi_residue.specs.Slots.{slot_of, slots_of}
-use Rattle.psi_residue.proofs.Sums.{same_as_table}
 use Rattle.item_slots.specs.Tags.{parts, slot_value, slot_values}
-use Rattle.batching.proofs.Batches.{slot-slots_of}
-use Rattle.bfv_core.specs.Encryptions.{opening}
-use Rattle.query_codec.specs.Ciphertexts.{ciphertext_in, ciphertexts_in}
-use Rattle.query_codec.specs.Replies.{row_count, reply_counts, reply_ciphertexts}
 use Rattle.psi_receiver.specs.declared.placement.Placed.{Placed}
 use Rattle.psi_receiver.specs.declared.found.Found.{Found}
 use Rattle.psi_receiver.specs.Placements.{placed, placed_item}
-use Rattle.psi_receiver.specs.Queries.{part_value, bin_value, query_ciphertext, query_ciphertexts, query_value, slot_powers}
-use Rattle.psi_receiver.specs.Openings.{Reply, opened_value, opens_in, opened_label, opened_at, opened_item, opened}
+use Rattle.psi_receiver.specs.Queries.{part_value, bin_value}
+use Rattle.psi_receiver.specs.Openings.{Reply, opens_in, opened_at, opened_item, opened}
+use Rattle.psi_receiver.proofs.Bins.{part-is}
 
 pub range-more : (a n : ℕ) → range_with_len a (n + 1) ≡ range_with_len a n ++ (a + n) ∷ []
 range-more a n =
@@ -53,36 +45,6 @@ placed_below-more tags positions n = map-range_with_len_more (placed_item tags p
 pub placed_below-all : (tags : List (List ℕ)) (positions : List ℕ) → placed_below tags positions (length tags) ≡ placed tags positions
 unfolding placed_below placed
 placed_below-all tags positions = refl
-
--- ---- the ciphertexts of a query
-
-unfoldable pub ciphertexts_below : (capacity : ℕ) → (seed : List ℕ) → List Placed → ℕ → List (List (List ℕ))
-ciphertexts_below capacity seed placed n = map (query_ciphertext capacity seed placed) (range_with_len 0 n)
-
-pub ciphertexts_below-none : (capacity : ℕ) (seed : List ℕ) (placed : List Placed) → ciphertexts_below capacity seed placed 0 ≡ []
-unfolding ciphertexts_below
-ciphertexts_below-none capacity seed placed = refl
-
-pub ciphertexts_below-more : (capacity : ℕ) (seed : List ℕ) (placed : List Placed) (n : ℕ)
-    → ciphertexts_below capacity seed placed (n + 1) ≡ ciphertexts_below capacity seed placed n ++ query_ciphertext capacity seed placed n ∷ []
-unfolding ciphertexts_below
-ciphertexts_below-more capacity seed placed n = map-range_with_len_more (query_ciphertext capacity seed placed) 0 n n (omega arith)
-
-pub ciphertexts_below-all : (p : Parameters) (seed : List ℕ) (placed : List Placed)
-    → ciphertexts_below p.capacity seed placed (p.rows * p.capacity) ≡ query_ciphertexts p seed placed
-unfolding ciphertexts_below query_ciphertexts
-ciphertexts_below-all p seed placed = refl
-
-pub length-query_ciphertexts : (p : Parameters) (seed : List ℕ) (placed : List Placed) → length (query_ciphertexts p seed placed) ≡ p.rows * p.capacity
-unfolding query_ciphertexts
-length-query_ciphertexts p seed placed = length-map-range_with_len (query_ciphertext p.capacity seed placed) 0 (p.rows * p.capacity)
-
--- ---- the powers of slot values
-
-pub slot_powers-from : (placed : List Placed) (row k : ℕ) (out : List ℕ) → length out ≡ 4096
-    → ((i : ℕ) → i < 4096 → get_or out i 0 ≡ query_value placed row i ^ k % 65537) → out ≡ slot_powers placed row k
-unfolding slot_powers
-slot_powers-from placed row k out size each = same_as_table 4096 (λ slot. query_value placed row slot ^ k % 65537) out size each
 
 -- ---- the bundles of an item
 
@@ -137,19 +99,6 @@ pub opened_below-all : (reply : Reply) (x : Placed) → opened_below reply x (sl
 unfolding opened_below opened_item
 opened_below-all reply x = refl
 
--- without label units, the five slots of the bin in bundle u
-pub opens-here : (key : List ℤ) (counts : List ℕ) (cts : List (List (List ℕ))) (position u first : ℕ) (ct : List (List ℕ))
-    → first ≡ sum (take (position / 819) counts) → ct ≡ get_or cts (first + u) []
-    → list_all (λ part. nat_eq (slot_of (opening key ct) (5 * (position % 819) + part)) 0) parts
-    ≡ opens_in (record { key = key; units = 0; counts = counts; ciphertexts = cts }) position u
-unfolding opens_in opened_value
-opens-here key counts cts position u first ct first-is ct-is =
-    ap (λ (c : List (List ℕ)). list_all (λ part. nat_eq (slot_of (opening key c) (5 * (position % 819) + part)) 0) parts)
-    (ct-is ∙ ap (λ (i : ℕ). get_or cts i []) (number first u ∙ ap (λ (s : ℕ). (s + u) * (1 + 0) + 0) first-is))
-  where
-    number : (s v : ℕ) → s + v ≡ (s + v) * (1 + 0) + 0
-    number s v = omega arith
-
 -- ---- the five slots of a bin
 
 pub all_zero : (f : ℕ → ℕ) → ((k : ℕ) → k < 5 → f k ≡ 0) → list_all (λ part. nat_eq (f part) 0) parts ≡ true
@@ -159,29 +108,9 @@ all_zero f h =
     zero_test : (k : ℕ) → k < 5 → nat_eq (f k) 0 ≡ true
     zero_test k lt = eq-eqb (f k) 0 (h k lt)
 
-part-is : (j : ℕ) → j < 5 → get_or parts j 0 ≡ j
-part-is zero lt = refl
-part-is (suc zero) lt = refl
-part-is (suc (suc zero)) lt = refl
-part-is (suc (suc (suc zero))) lt = refl
-part-is (suc (suc (suc (suc zero)))) lt = refl
-part-is (suc (suc (suc (suc (suc j))))) lt = absurd (omega arith)
-
 pub one_not_zero : (f : ℕ → ℕ) (j : ℕ) → j < 5 → (f j ≡ 0 → ⊥) → list_all (λ part. nat_eq (f part) 0) parts ≡ false
 one_not_zero f j lt other =
     list_all_at (λ part. nat_eq (f part) 0) parts j 0 lt (ap (λ (k : ℕ). nat_eq (f k) 0) (part-is j lt) ∙ ne_eqb (f j) 0 other)
-
-pub slots-zero : (plain slots : List ℕ) (bin : ℕ) → slots ≡ slots_of plain → bin < 819 → ((k : ℕ) → k < 5 → get_or slots (5 * bin + k) 0 ≡ 0)
-    → list_all (λ part. nat_eq (slot_of plain (5 * bin + part)) 0) parts ≡ true
-slots-zero plain slots bin e lt h =
-    all_zero (λ part. slot_of plain (5 * bin + part))
-    (λ k few. sym (slot-slots_of plain (5 * bin + k) (omega arith)) ∙ sym (ap (λ (xs : List ℕ). get_or xs (5 * bin + k) 0) e) ∙ h k few)
-
-pub slots-not_zero : (plain slots : List ℕ) (bin j : ℕ) → slots ≡ slots_of plain → bin < 819 → j < 5 → (get_or slots (5 * bin + j) 0 ≡ 0 → ⊥)
-    → list_all (λ part. nat_eq (slot_of plain (5 * bin + part)) 0) parts ≡ false
-slots-not_zero plain slots bin j e lt few other =
-    one_not_zero (λ part. slot_of plain (5 * bin + part)) j few
-    (λ none. other (ap (λ (xs : List ℕ). get_or xs (5 * bin + j) 0) e ∙ slot-slots_of plain (5 * bin + j) (omega arith) ∙ none))
 
 -- ---- what is placed at a position
 
@@ -209,31 +138,6 @@ slot_values-at tag part lt = get_or-map (slot_value tag) parts part 0 0 lt ∙ a
 pub slot_value-told : (tag values : List ℕ) (part x : ℕ) → values ≡ slot_values tag → part < 5 → x ≡ get_or values part 0 → x ≡ slot_value tag part
 slot_value-told tag values part x same lt here = here ∙ ap (λ (xs : List ℕ). get_or xs part 0) same ∙ slot_values-at tag part lt
 
--- ---- bundles of a reply
-
-pub no-opened_label : (reply : Reply) (position u : ℕ) → reply.units ≡ 0 → opened_label reply position u ≡ []
-unfolding opened_label
-no-opened_label reply position u none =
-    ap (λ (n : ℕ). flat_map (λ unit. flat_map (λ part. bytes_high_first 2 (opened_value reply position u (unit + 1) part % 65536)) parts) (range_with_len 0 n)) none
-
-pub opens-told : (key : List ℤ) (counts : List ℕ) (cts : List (List (List ℕ))) (position u row_of bin_of bundle first : ℕ) (ct : List (List ℕ)) (b : Bool)
-    → row_of ≡ position → bin_of ≡ position → bundle ≡ u → first ≡ sum (take (row_of / 819) counts) → ct ≡ get_or cts (first + bundle) ct
-    → position < 819 * length counts → length cts ≡ sum counts → u < get_or counts (row_of / 819) 0
-    → b ≡ list_all (λ part. nat_eq (slot_of (opening key ct) (5 * (bin_of % 819) + part)) 0) parts
-    → opens_in (record { key = key; units = 0; counts = counts; ciphertexts = cts }) position u ≡ b
-opens-told key counts cts position u row_of bin_of bundle first ct b row-is bin-is bundle-is first-is ct-is within many below told =
-    sym (opens-here key counts cts position u first ct (first-is ∙ ap (λ (q : ℕ). sum (take (q / 819) counts)) row-is) whole)
-    ∙ ap (λ (q : ℕ). list_all (λ part. nat_eq (slot_of (opening key ct) (5 * (q % 819) + part)) 0) parts) (sym bin-is)
-    ∙ sym told
-  where
-    inside : first + bundle < length cts
-    inside =
-        let part = sum_by_more_le (λ (n : ℕ). n) counts (row_of / 819) 0 (omega (arith, row-is, within)) in
-        omega (arith, part, first-is, many, below, bundle-is)
-
-    whole : ct ≡ get_or cts (first + u) []
-    whole = ct-is ∙ get_or_default cts (first + bundle) ct [] inside ∙ ap (λ (v : ℕ). get_or cts (first + v) []) bundle-is
-
 pub opened-more : (reply : Reply) (placed : List Placed) (i : ℕ) (x : Placed) → i < length placed → x ≡ get_or placed i x
     → opened reply (take (i + 1) placed) ≡ opened reply (take i placed) ++ opened_item reply x
 unfolding opened
@@ -241,18 +145,3 @@ opened-more reply placed i x lt here =
     ap (flat_map (opened_item reply)) (take_more placed i x lt ∙ ap (λ (y : Placed). take i placed ++ y ∷ []) (sym here))
     ∙ flat_map-append (opened_item reply) (take i placed) (x ∷ [])
     ∙ ap (λ (xs : List Found). flat_map (opened_item reply) (take i placed) ++ xs) (append-nil (opened_item reply x))
-
--- ---- the lists of a reply
-
-pub length-reply_counts : (p : Parameters) (body : List ℕ) → length (reply_counts p body) ≡ p.rows
-unfolding reply_counts
-length-reply_counts p body = length-map-range_with_len (row_count body) 0 p.rows
-
-pub length-reply_ciphertexts : (p : Parameters) (body : List ℕ) → p.units ≡ 0 → length (reply_ciphertexts p body) ≡ sum (reply_counts p body)
-unfolding reply_ciphertexts ciphertexts_in
-length-reply_ciphertexts p body none =
-    length-map-range_with_len (ciphertext_in (drop (8 + 2 * p.rows) body)) 0 ((1 + p.units) * sum (reply_counts p body))
-    ∙ ap (λ (n : ℕ). (1 + n) * sum (reply_counts p body)) none ∙ once (sum (reply_counts p body))
-  where
-    once : (n : ℕ) → (1 + 0) * n ≡ n
-    once n = omega arith

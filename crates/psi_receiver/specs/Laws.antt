@@ -1,58 +1,47 @@
--- What the reply of a sound set opens to.
-use Rattle.std.specs.Prelude.{◌≡◌, ℕ, ◌<◌, ◌≤◌, List, length, slice_index, Some, ⊤}
+-- What the reply of a sound set opens to, and that this is what the set has.
+use Rattle.std.specs.Prelude.{◌≡◌, ◌≢◌, ℕ, ◌<◌, List, [], length, map, slice_index_or, None, Some}
 use Rattle.std.specs.FinMap as fin
 use Rattle.std.specs.List.{All, Contains}
 use Rattle.psi_residue.specs.Parameters.{Parameters}
-use Rattle.item_slots.specs.Tags.{slot_value, tag_of}
+use Rattle.item_slots.specs.Tags.{positions_of, slot_value, tag_of}
+use Rattle.cuckoo_place.specs.Placements.{IsPlacement}
 use Rattle.noise_ledger.specs.Verdicts.{ArePassed}
-use Rattle.psi_bundle.specs.declared.history.Call.{Call}
-use Rattle.psi_bundle.specs.declared.history.Call.TheVariants as call
-use Rattle.psi_bundle.specs.declared.history.Entry.{Entry}
-use Rattle.psi_bundle.specs.Bodies.{reply_body}
-use Rattle.psi_bundle.specs.Histories.{version_at}
-use Rattle.psi_bundle.specs.Versions.{Labels, Row, Version, IsSound, empty_version}
 use Rattle.psi_bundle.specs.declared.member.Member.{Member}
+use Rattle.psi_bundle.specs.Histories.{AreBytes, HoldBytes}
+use Rattle.psi_bundle.specs.Versions.{Row, Version, IsSound}
+use Rattle.query_codec.specs.Replies.{reply_body}
 use Rattle.psi_receiver.specs.declared.found.Found.{Found}
 use Rattle.psi_receiver.specs.declared.placement.Placed.{Placed}
-use Rattle.psi_receiver.specs.Placements.{least_placement}
-use Rattle.psi_receiver.specs.Queries.{query_of}
+use Rattle.psi_receiver.specs.Placements.{placed, position_sets}
+use Rattle.psi_receiver.specs.Queries.{query_ciphertexts}
 use Rattle.psi_receiver.specs.Openings.{opened, reply_of}
 use Rattle.psi_receiver.specs.Findings.{bin_in, found}
 
--- each element is a byte
-abbrev pub AreBytes : List ℕ → Type 0
-AreBytes bytes = (i : ℕ) → slice_index bytes i < 256
-
--- each tag of the map is bytes
-abbrev pub HaveByteTags : Labels → Type 0
-HaveByteTags labels = (tag label : List ℕ) → fin.get labels tag ≡ Some label → AreBytes tag
-
--- the tag of a call is bytes
-abbrev pub HasByteTag : Call → Type 0
-HasByteTag (call.Put tag label) = AreBytes tag
-HasByteTag (call.Drop tag) = AreBytes tag
-HasByteTag call.Ask = ⊤
-HasByteTag (call.Repack row from) = ⊤
-
 -- the reply of a version to the query of a seed and placed tags
 abbrev pub reply_to : Version → (seed : List ℕ) → List Placed → List ℕ
-reply_to v seed placed = reply_body v.parameters v.rows (query_of v.parameters seed placed)
+reply_to v seed placed = reply_body v.parameters v.rows (query_ciphertexts v.parameters seed placed)
 
--- Of a sound version the reply to a query of at most one tag, which stands at its least position, opens to what is found there.
+-- what that reply opens to
+abbrev pub opened_from : Version → (seed : List ℕ) → List Placed → List Found
+opened_from v seed placed = opened (reply_of v.parameters seed (reply_to v seed placed)) placed
+
+-- Of a sound version the reply to a query of tags, with any placement, opens to what is found there.
 abbrev pub OpenedIsFound : Type 0
 OpenedIsFound =
-    (v : Version) (seed : List ℕ) (tags : List (List ℕ))
-    → ArePassed v.parameters → v.parameters.units ≡ 0 → IsSound v → HaveByteTags v.labels → length tags ≤ 1 → All AreBytes tags
-    → let placed = least_placement v.parameters.rows tags in
-    opened (reply_of v.parameters seed (reply_to v seed placed)) placed ≡ found v.parameters.units v.rows placed
+    (v : Version) (seed : List ℕ) (tags : List (List ℕ)) (places : List ℕ)
+    → ArePassed v.parameters → IsSound v → HoldBytes v.labels → All AreBytes tags → IsPlacement (position_sets v.parameters.rows tags) places
+    → opened_from v seed (placed tags places) ≡ found v.parameters v.rows (placed tags places)
 
--- An item's tag is bytes ..
+-- Items' tags are bytes.
 abbrev pub TagsAreBytes : Type 0
 TagsAreBytes = (item : List ℕ) → AreBytes (tag_of item)
 
--- .. and so are the tags of every version of a history whose calls have such tags.
-abbrev pub HistoriesKeepByteTags : Type 0
-HistoriesKeepByteTags = (p : Parameters) (es : List Entry) → All (λ e. HasByteTag e.call) es → (k : ℕ) → HaveByteTags (version_at (empty_version p) es k).labels
+-- A tag of the map that is placed at one of its positions is found in a bundle, with the map's label.
+abbrev pub MembersAreFound : Type 0
+MembersAreFound =
+    (v : Version) (placed : List Placed) (x : Placed) (label : List ℕ)
+    → IsSound v → Contains placed x → Contains (positions_of v.parameters.rows x.tag) x.position → fin.get v.labels x.tag ≡ Some label
+    → (u : ℕ) × Contains (found v.parameters v.rows placed) (record { item = x.item; bundle = u; label = label })
 
 -- The found item takes each of its slot values from a member of its bin in that bundle.
 abbrev pub TakesSlots : List Row → List Placed → Found → Type 0
@@ -62,4 +51,28 @@ TakesSlots rows placed f =
 
 -- So does every found item, a member or not.
 abbrev pub FoundTakeSlots : Type 0
-FoundTakeSlots = (units : ℕ) (rows : List Row) (placed : List Placed) → All (TakesSlots rows placed) (found units rows placed)
+FoundTakeSlots = (p : Parameters) (rows : List Row) (placed : List Placed) → All (TakesSlots rows placed) (found p rows placed)
+
+-- an item by its number
+abbrev pub item_at : List (List ℕ) → ℕ → List ℕ
+item_at items i = slice_index_or items i []
+
+-- what the reply of a version to the query of a seed and items at these places opens to
+abbrev pub answer_to : Version → (seed : List ℕ) → (items : List (List ℕ)) → (places : List ℕ) → List Found
+answer_to v seed items places = opened_from v seed (placed (map tag_of items) places)
+
+-- An item that the set has is found by its query, with the label that it has there ..
+abbrev pub ItemsAreFound : Type 0
+ItemsAreFound =
+    (v : Version) (seed : List ℕ) (items : List (List ℕ)) (places : List ℕ)
+    → ArePassed v.parameters → IsSound v → HoldBytes v.labels → IsPlacement (position_sets v.parameters.rows (map tag_of items)) places
+    → (i : ℕ) (label : List ℕ) → i < length items → fin.get v.labels (tag_of (item_at items i)) ≡ Some label
+    → (u : ℕ) × Contains (answer_to v seed items places) (record { item = i; bundle = u; label = label })
+
+-- .. and an item that is found nowhere is not in the set.
+abbrev pub UnfoundAreMissing : Type 0
+UnfoundAreMissing =
+    (v : Version) (seed : List ℕ) (items : List (List ℕ)) (places : List ℕ)
+    → ArePassed v.parameters → IsSound v → HoldBytes v.labels → IsPlacement (position_sets v.parameters.rows (map tag_of items)) places
+    → (i : ℕ) → i < length items → All (λ f. f.item ≢ i) (answer_to v seed items places)
+    → fin.get v.labels (tag_of (item_at items i)) ≡ None

@@ -1,32 +1,37 @@
 -- What a reply opens to: the placed items whose slots are 0 in the root plane of a bundle (Chen, Laine, Rindal, CCS 2017), with the labels
 -- that the other planes give (Chen, Huang, Laine, Rindal, CCS 2018). It speaks of the reply alone, and of the receiver's key.
-use Rattle.std.specs.Prelude.{ℕ, Bool, ◌+◌, ◌*◌, ◌/◌, ◌%◌, nat_eq, List, [], map, take, filter, slice_index, slice_index_or, ℤ}
+use Rattle.std.specs.Prelude.{◌≡◌, ℕ, Bool, ◌+◌, ◌*◌, ◌/◌, ◌%◌, nat_eq, List, [], map, take, filter, slice_index, slice_index_or, ℤ}
 use Rattle.std.specs.List.{flat_map, list_all, range_with_len, sum}
 use Rattle.std.specs.Int.{bytes_high_first}
 use Rattle.psi_residue.specs.Parameters.{Parameters}
-use Rattle.psi_residue.specs.Slots.{slot_of}
+use Rattle.psi_residue.specs.Slots.{slots_of}
 use Rattle.item_slots.specs.Tags.{bins_of_row, parts}
+use Rattle.psi_bundle.specs.Planes.{planes_of_bundle}
 use Rattle.bfv_core.specs.Encryptions.{opening}
 use Rattle.bfv_core.specs.EncryptedLists.{key_of_seed}
 use Rattle.query_codec.specs.Replies.{reply_counts, reply_ciphertexts}
 use Rattle.psi_receiver.specs.declared.placement.Placed.{Placed}
 use Rattle.psi_receiver.specs.declared.found.Found.{Found}
+use Rattle.psi_receiver.specs.Placements.{ArePlaced}
 
--- A reply: the bundles of each row, and the ciphertexts of all planes, by row, bundle and plane. Its label units, and the key that opens it.
+-- An opened reply: its parameters, the bundles of each row, and the slots of what each ciphertext opens to, by row, bundle and plane.
 pub record Reply : Type 0 where
-  pub key : List ℤ
-  pub units : ℕ
+  pub parameters : Parameters
   pub counts : List ℕ
-  pub ciphertexts : List (List (List ℕ))
+  pub planes : List (List ℕ)
 
--- the number of the ciphertext of one plane of bundle u of a row
+-- the number of one plane of bundle u of a row
 abbrev pub number_of : Reply → (row u plane : ℕ) → ℕ
-number_of reply row u plane = (sum (take row reply.counts) + u) * (1 + reply.units) + plane
+number_of reply row u plane = (sum (take row reply.counts) + u) * planes_of_bundle reply.parameters + plane
+
+-- the value of one part of a bin among a plane's slots
+abbrev pub value_in : (slots : List ℕ) → (bin part : ℕ) → ℕ
+value_in slots bin part = slice_index slots (5 * bin + part)
 
 -- the value that a part of a bin opens to, in one plane of bundle u of the bin's row: position p is bin p % 819 of row p / 819
 unfoldable pub opened_value : Reply → (position u plane part : ℕ) → ℕ
 opened_value reply position u plane part =
-    slot_of (opening reply.key (slice_index_or reply.ciphertexts (number_of reply (position / bins_of_row) u plane) [])) (5 * (position % bins_of_row) + part)
+    value_in (slice_index_or reply.planes (number_of reply (position / bins_of_row) u plane) []) (position % bins_of_row) part
 
 -- the five slots of the bin are 0 in the root plane of bundle u
 unfoldable pub opens_in : Reply → (position u : ℕ) → Bool
@@ -35,7 +40,7 @@ opens_in reply position u = list_all (λ part. nat_eq (opened_value reply positi
 -- the label there: 16 bits from each part of each unit
 unfoldable pub opened_label : Reply → (position u : ℕ) → List ℕ
 opened_label reply position u =
-    flat_map (λ unit. flat_map (λ part. bytes_high_first 2 (opened_value reply position u (unit + 1) part % 65536)) parts) (range_with_len 0 reply.units)
+    flat_map (λ unit. flat_map (λ part. bytes_high_first 2 (opened_value reply position u (unit + 1) part % 65536)) parts) (range_with_len 0 reply.parameters.units)
 
 -- an item in one bundle
 abbrev pub opened_at : Reply → Placed → ℕ → Found
@@ -49,6 +54,14 @@ opened_item reply x = map (opened_at reply x) (filter (opens_in reply x.position
 unfoldable pub opened : Reply → List Placed → List Found
 opened reply placed = flat_map (opened_item reply) placed
 
+-- the slots of what a ciphertext opens to under a key
+abbrev pub opened_slots : (key : List ℤ) → List (List ℕ) → List ℕ
+opened_slots key ct = slots_of (opening key ct)
+
 -- a reply body, read under the parameters and opened by the key of a seed
 abbrev pub reply_of : Parameters → (seed body : List ℕ) → Reply
-reply_of p seed body = record { key = key_of_seed seed; units = p.units; counts = reply_counts p body; ciphertexts = reply_ciphertexts p body }
+reply_of p seed body = record { parameters = p; counts = reply_counts p body; planes = map (opened_slots (key_of_seed seed)) (reply_ciphertexts p body) }
+
+-- what a reply body opens to for tags
+abbrev pub AreOpened : Parameters → (seed : List ℕ) → (tags : List (List ℕ)) → (reply : List ℕ) → List Found → Type 0
+AreOpened p seed tags reply found = (placed : List Placed) × ArePlaced p.rows tags placed × (found ≡ opened (reply_of p seed reply) placed)

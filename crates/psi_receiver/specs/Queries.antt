@@ -1,6 +1,6 @@
 -- The query of placed tags: the encrypted powers of their slot values (Chen, Laine, Rindal, CCS 2017), 4096 slots in one ciphertext
 -- (Smart and Vercauteren 2014). The order of slots, and the value of a bin that holds no item, are this project's own.
-use Rattle.std.specs.Prelude.{ℕ, ◌+◌, ◌*◌, ◌/◌, ◌%◌, ◌^◌, List, map, nat_eq, nat_lt, Option, None, Some, if◌then◌else◌}
+use Rattle.std.specs.Prelude.{◌≡◌, ℕ, ◌+◌, ◌*◌, ◌/◌, ◌%◌, ◌^◌, List, map, nat_eq, nat_lt, Option, None, Some, slice_index, if◌then◌else◌}
 use Rattle.std.specs.List.{find, range_with_len}
 use Rattle.psi_residue.specs.Numbers.{ring_degree, plain_modulus}
 use Rattle.psi_residue.specs.Parameters.{Parameters}
@@ -10,6 +10,7 @@ use Rattle.item_slots.specs.Tags.{bins_of_row, slot_value}
 use Rattle.bfv_core.specs.EncryptedLists.{encrypted}
 use Rattle.query_codec.specs.Queries.{query_body}
 use Rattle.psi_receiver.specs.declared.placement.Placed.{Placed}
+use Rattle.psi_receiver.specs.Placements.{ArePlaced}
 
 -- the value of a slot that holds no item, which is above every slot value
 abbrev pub empty_value : ℕ
@@ -29,13 +30,17 @@ unfoldable pub query_value : List Placed → (row slot : ℕ) → ℕ
 query_value placed row slot =
     if nat_lt slot (5 * bins_of_row) then bin_value placed (bins_of_row * row + slot / 5) (slot % 5) else empty_value
 
--- the powers of a row's slot values with the exponent k, modulo the plaintext modulus
-unfoldable pub slot_powers : List Placed → (row k : ℕ) → List ℕ
-slot_powers placed row k = table ring_degree (λ slot. query_value placed row slot ^ k % plain_modulus)
+-- the values of a row's slots
+unfoldable pub row_values : List Placed → (row : ℕ) → List ℕ
+row_values placed row = table ring_degree (query_value placed row)
+
+-- the powers of slot values with the exponent k, modulo the plaintext modulus
+unfoldable pub powers_of : List ℕ → (k : ℕ) → List ℕ
+powers_of values k = table ring_degree (λ slot. slice_index values slot ^ k % plain_modulus)
 
 -- The ciphertext of a row and a power k has the number c = row·capacity + k - 1. Number c:
 unfoldable pub query_ciphertext : (capacity : ℕ) → (seed : List ℕ) → List Placed → (c : ℕ) → List (List ℕ)
-query_ciphertext capacity seed placed c = encrypted seed c (packed_list (slot_powers placed (c / capacity) (c % capacity + 1)))
+query_ciphertext capacity seed placed c = encrypted seed c (packed_list (powers_of (row_values placed (c / capacity)) (c % capacity + 1)))
 
 -- the ciphertexts of the query
 unfoldable pub query_ciphertexts : Parameters → (seed : List ℕ) → List Placed → List (List (List ℕ))
@@ -44,3 +49,7 @@ query_ciphertexts p seed placed = map (query_ciphertext p.capacity seed placed) 
 -- the query's body
 abbrev pub query_of : Parameters → (seed : List ℕ) → List Placed → List ℕ
 query_of p seed placed = query_body p (query_ciphertexts p seed placed)
+
+-- a body is the query of tags
+abbrev pub IsQueryOf : Parameters → (seed : List ℕ) → (tags : List (List ℕ)) → (body : List ℕ) → Type 0
+IsQueryOf p seed tags body = (placed : List Placed) × ArePlaced p.rows tags placed × (body ≡ query_of p seed placed)

@@ -1,15 +1,13 @@
 //! Queries.
-ghost use Rattle.std.specs.Prelude.{◌≡◌, ◌≤◌, ◌<◌, ◌⊎◌, None, Some, IfSome, IfOk, OnOk, IfErr, IsTrue, length, map};
+ghost use Rattle.std.specs.Prelude.{◌≡◌, ◌<◌, ◌^◌, None, IfSome, IfOk, OnOk, IfErr, length, map};
 ghost use Rattle.std.specs.List.{position};
 ghost use Rattle.item_slots.specs.Tags.{tag_of};
 ghost use Rattle.noise_ledger.specs.Verdicts.{parameters_of, ArePassed};
-ghost use Rattle.psi_receiver.specs.declared.fault.AskFault.TheVariants.{NoMemory};
-ghost use Rattle.psi_receiver.specs.Faults.{ask_fault, is_long};
-ghost use Rattle.psi_receiver.specs.Placements.{least_placement};
-ghost use Rattle.psi_receiver.specs.Queries.{query_of};
+ghost use Rattle.psi_receiver.specs.Faults.{is_long, IsAskFault};
+ghost use Rattle.psi_receiver.specs.Queries.{IsQueryOf};
 
 use crate::fault::AskFault;
-use crate::placement::place;
+use crate::placement::place_tags;
 use crate::query::encrypt_query;
 use item_slots::{Tag, tag_of};
 use noise_ledger::Params;
@@ -20,11 +18,12 @@ use std::thread::Threads;
 // The most bytes of an item.
 const LONGEST: usize = 255;
 
-/// The query of items, which is a query body with their encrypted powers. It fails, but for want of memory, exactly
-/// where an item is longer than 255 bytes.
+/// The query of items: a query body with the encrypted powers of their slot values, at the positions of their first
+/// placement.
 ///
-/// The parameters are passed ones without label units, and there is at most one item, which stands at its least
-/// position. The same seed always gives the same key and masks.
+/// It fails, but for want of memory, exactly where an item is longer than 255 bytes (`TooLong`, which comes first) or the
+/// items have no placement (`Crowded`). The parameters are passed ones, and there are fewer than 2^32 items. The same seed
+/// always gives the same key and masks.
 pub fn ask<R: Threads + Sync>(
     rt: &R,
     alloc: Global,
@@ -33,11 +32,10 @@ pub fn ask<R: Threads + Sync>(
     items: &[Vec<u8>],
 ) -> Result<Vec<u8>, AskFault>
     requires passed { ArePassed (parameters_of params.now) }
-    requires no_units { params.now.units ≡ 0 }
-    requires at_most_one { length items.now ≤ 1 }
-    ensures query { IfOk result (λ body. body.items ≡ query_of (parameters_of params.now) seed.now (least_placement params.now.rows (map (λ item. tag_of item.items) items.now))) }
+    requires numbered { length items.now < 2 ^ 32 }
+    ensures query { IfOk result (λ body. IsQueryOf (parameters_of params.now) seed.now (map (λ item. tag_of item.items) items.now) body.items) }
     ensures short { OnOk result (position (λ item. is_long item.items) items.now ≡ None) }
-    ensures fault { IfErr result (λ fault. (fault ≡ NoMemory) ⊎ (ask_fault (position (λ item. is_long item.items) items.now) ≡ Some fault)) }
+    ensures fault { IfErr result (IsAskFault params.now.rows (position (λ item. is_long item.items) items.now) (map (λ item. tag_of item.items) items.now)) }
 {
     if let Some(item) = first_long(items) {
         return Err(AskFault::TooLong { item });
@@ -46,28 +44,27 @@ pub fn ask<R: Threads + Sync>(
     ask_tags(rt, alloc, params, seed, &tags)
 }
 
-/// The query of tags, as [`ask`] makes it of items. It fails only for want of memory.
+/// The query of tags, as [`ask`] makes it of items. It never answers `TooLong`.
 pub fn ask_tags<R: Threads + Sync>(
-    _rt: &R,
+    rt: &R,
     alloc: Global,
     params: &Params,
     seed: &[u8; 32],
     tags: &[Tag],
 ) -> Result<Vec<u8>, AskFault>
     requires passed { ArePassed (parameters_of params.now) }
-    requires no_units { params.now.units ≡ 0 }
-    requires at_most_one { length tags.now ≤ 1 }
-    ensures query { IfOk result (λ body. body.items ≡ query_of (parameters_of params.now) seed.now (least_placement params.now.rows tags.now)) }
-    ensures fault { IfErr result (λ fault. fault ≡ NoMemory) }
+    requires numbered { length tags.now < 2 ^ 32 }
+    ensures query { IfOk result (λ body. IsQueryOf (parameters_of params.now) seed.now tags.now body.items) }
+    ensures fault { IfErr result (IsAskFault params.now.rows None tags.now) }
 {
-    let placed = place(alloc, tags, params.rows)?;
-    let query = encrypt_query(alloc, params, seed, &placed)?;
+    let placed = place_tags(alloc, tags, params.rows)?;
+    let query = encrypt_query(rt, alloc, params, seed, &placed)?;
     Ok(write_query(alloc, params, &query)?)
 }
 
 /// The number of the first item that is longer than 255 bytes.
 pub fn first_long(items: &[Vec<u8>]) -> Option<u32>
-    requires { length items.now ≤ 1 }
+    requires { length items.now < 2 ^ 32 }
     ensures { result ≡ position (λ item. is_long item.items) items.now }
 {
     let item = position_of_long(items)?;

@@ -3,33 +3,9 @@ ghost use Rattle.std.specs.Prelude.{◌≡◌};
 ghost use Rattle.psi_receiver.specs.declared.fault.AskFault.TheVariants as asking;
 ghost use Rattle.psi_receiver.specs.declared.fault.OpenFault.TheVariants as opening;
 
+use cuckoo_place::Unplaced;
 use query_codec::CodecFault;
 use std::alloc::AllocError;
-use std::marker::Model;
-
-/// Items that have fewer positions, all together, than they are. They are seen as the rising list of their numbers,
-/// counted from 0.
-#[derive(Drop)]
-pub struct Crowd {
-    numbers: Vec<u32>,
-}
-
-impl Model for Crowd {
-    ghost use Rattle.std.specs.Prelude.{List, ℕ};
-
-    ghost Value = { List ℕ };
-
-    ghost view = { λ crowd. crowd.numbers.items };
-}
-
-impl Crowd {
-    /// The numbers of the items.
-    pub fn items(&self) -> &[u32]
-        ensures { result.now ≡ self.now }
-    {
-        &self.numbers
-    }
-}
 
 /// Why there is no query.
 #[derive(Drop)]
@@ -41,8 +17,8 @@ pub enum AskFault {
     },
     /// The items have no placement.
     Crowded {
-        /// Items with fewer positions than they are.
-        items: Crowd,
+        /// The numbers of items, counted from 0, in rising order, whose positions together are fewer than they.
+        items: Vec<u32>,
     },
     /// Memory ran out.
     NoMemory,
@@ -56,6 +32,19 @@ impl From<AllocError> for AskFault {
     }
 }
 
+impl From<Unplaced> for AskFault {
+    ghost use Rattle.psi_receiver.specs.Faults.{ask_unplaced, open_unplaced};
+
+    ghost from_gives = { λ unplaced fault. fault ≡ ask_unplaced unplaced };
+
+    fn from(unplaced: Unplaced) -> AskFault {
+        match unplaced {
+            Unplaced::Crowded { items } => AskFault::Crowded { items },
+            Unplaced::NoMemory => AskFault::NoMemory,
+        }
+    }
+}
+
 /// Why a reply is not opened.
 #[derive(Drop)]
 pub enum OpenFault {
@@ -66,8 +55,8 @@ pub enum OpenFault {
     },
     /// The items have no placement.
     Crowded {
-        /// Items with fewer positions than they are.
-        items: Crowd,
+        /// The numbers of items, counted from 0, in rising order, whose positions together are fewer than they.
+        items: Vec<u32>,
     },
     /// The body is no reply under these parameters.
     Codec(CodecFault),
@@ -80,5 +69,17 @@ impl From<AllocError> for OpenFault {
 
     fn from(_error: AllocError) -> OpenFault {
         OpenFault::NoMemory
+    }
+}
+
+impl From<Unplaced> for OpenFault {
+
+    ghost from_gives = { λ unplaced fault. fault ≡ open_unplaced unplaced };
+
+    fn from(unplaced: Unplaced) -> OpenFault {
+        match unplaced {
+            Unplaced::Crowded { items } => OpenFault::Crowded { items },
+            Unplaced::NoMemory => OpenFault::NoMemory,
+        }
     }
 }

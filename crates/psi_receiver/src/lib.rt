@@ -12,11 +12,14 @@ mod laws;
 mod opening;
 mod placement;
 mod query;
+mod slots;
 
 pub use asking::{ask, ask_tags};
-pub use fault::{AskFault, Crowd, OpenFault};
+pub use fault::{AskFault, OpenFault};
 pub use found::Found;
-pub use laws::{found_take_slots, opened_is_found, tags_are_bytes};
+pub use laws::{
+    found_take_slots, items_are_found, members_are_found, opened_is_found, tags_are_bytes,
+};
 pub use opening::{open, open_tags};
 
 #[cfg(test)]

@@ -1,31 +1,32 @@
 //! The ciphertexts of a query.
-ghost use Rattle.std.specs.Prelude.{◌≡◌, ◌<◌, ◌≤◌, ◌*◌, ◌/◌, ◌%◌, ◌+◌, ◌^◌, IfOk, length};
+ghost use Rattle.std.specs.Prelude.{◌≡◌, ◌==◌, ◌<◌, ◌≤◌, ◌*◌, ◌/◌, ◌%◌, ◌+◌, ◌^◌, ℕ, [], IfOk, length, map, slice_index, slice_index_or, if◌then◌else◌};
+ghost use Rattle.std.specs.List.{All, range_with_len};
 ghost use Rattle.psi_residue.specs.Numbers.{plain_modulus, ring_degree};
 ghost use Rattle.psi_residue.specs.Polynomials.{IsPolynomial};
+ghost use Rattle.psi_residue.specs.Slots.{packed_list};
+ghost use Rattle.item_slots.specs.Tags.{bins_of_row, slot_value};
 ghost use Rattle.noise_ledger.specs.Verdicts.{parameters_of, ArePassed};
-ghost use Rattle.bfv_core.specs.EncryptedLists.{key_of_seed};
-ghost use Rattle.psi_receiver.specs.Queries.{bin_value, query_ciphertext, query_ciphertexts, query_value, slot_powers};
+ghost use Rattle.bfv_core.specs.EncryptedLists.{encrypted, key_of_seed};
+ghost use Rattle.psi_receiver.specs.Queries.{powers_of, query_ciphertexts, row_values};
 
 use crate::placement::Placed;
+use crate::slots::{BINS, PARTS, Slots};
 use batching::pack;
 use bfv_core::{Ciphertext, SecretKey, encrypt};
-use item_slots::slots;
+use item_slots::{Tag, slots};
 use noise_ledger::Params;
 use psi_residue::{Modulus, N, pow};
+use rayon::prelude::*;
 use std::alloc::{AllocError, Global};
-
-// The bins of a row.
-const BINS: usize = 819;
-
-// The parts of a bin, each with a slot.
-const PARTS: usize = 5;
+use std::thread::Threads;
 
 // The value of a slot that holds no item, which is above every slot value.
 const EMPTY: u32 = 65536;
 
 /// The ciphertexts of the query of placed tags: for each row and power one that encrypts the powers of the row's slot
-/// values. The parameters are passed ones.
-pub fn encrypt_query(
+/// values, each made by itself, in threads. The parameters are passed ones.
+pub fn encrypt_query<R: Threads + Sync>(
+    rt: &R,
     alloc: Global,
     params: &Params,
     seed: &[u8; 32],
@@ -35,73 +36,106 @@ pub fn encrypt_query(
     ensures query { IfOk result (λ cts. cts.items ≡ query_ciphertexts (parameters_of params.now) seed.now placed.now) }
 {
     let key = SecretKey::of(alloc, seed)?;
-    let count = u32::from(params.rows) * u32::from(params.capacity);
-    let mut cts = Vec::with_capacity(alloc, count as usize)?;
-    for c in 0..count {
-        cts.push(encrypt_power(alloc, u32::from(params.capacity), &key, seed, placed, c)?)?;
-    }
-    Ok(cts)
+    let values = values_of_rows(alloc, placed, params.rows)?;
+    encrypt_powers(rt, alloc, u32::from(params.capacity), &key, seed, &values)
 }
 
-// Ciphertext number `c`: it is of row `c / capacity` and of the power `c % capacity + 1`.
-fn encrypt_power(
+// The ciphertexts of all rows and powers, by row and then by power, where the rows' slots have these values.
+fn encrypt_powers<R: Threads + Sync>(
+    rt: &R,
     alloc: Global,
     capacity: u32,
     key: &SecretKey,
     seed: &[u8; 32],
-    placed: &[Placed],
-    c: u32,
-) -> Result<Ciphertext, AllocError>
+    values: &[Slots],
+) -> Result<Vec<Ciphertext>, AllocError>
     requires some { 1 ≤ capacity }
+    requires few { length values.now * capacity ≤ 2400 }
+    requires key_of_this_seed { key.now ≡ key_of_seed seed.now }
+    ensures { IfOk result (λ cts. cts.items ≡ map (λ c. encrypted seed.now c (packed_list (powers_of (slice_index_or values.now (c / capacity) []) (c % capacity + 1)))) (range_with_len 0 (length values.now * capacity))) }
+{
+    (0..values.len() as u32 * capacity)
+        .into_par_iter()
+        .with_min_len(1)
+        .map(
+            |c: u32| -> Result<Ciphertext, AllocError>
+                requires { (c < length values.now * capacity) × (length values.now * capacity ≤ 2400) × (key.now ≡ key_of_seed seed.now) }
+                ensures { IfOk result (λ ct. ct ≡ encrypted seed.entry.now c (packed_list (powers_of (slice_index_or values.entry.now (c / capacity) []) (c % capacity + 1)))) }
+            {
+                let row = (c / capacity) as usize;
+                encrypt_power(alloc, key, seed, &values[row], c, c % capacity + 1)
+            },
+        )
+        .collect::<Result<Vec<Ciphertext>, AllocError>>(rt, alloc)?
+}
+
+// Ciphertext number `c`, of these slot values' powers with an exponent.
+fn encrypt_power(
+    alloc: Global,
+    key: &SecretKey,
+    seed: &[u8; 32],
+    values: &Slots,
+    c: u32,
+    exponent: u32,
+) -> Result<Ciphertext, AllocError>
     requires key_of_this_seed { key.now ≡ key_of_seed seed.now }
     requires numbered { c < 2400 }
-    ensures { IfOk result (λ ct. ct ≡ query_ciphertext capacity seed.now placed.now c) }
+    ensures { IfOk result (λ ct. ct ≡ encrypted seed.now c (packed_list (powers_of values.now exponent))) }
 {
-    let mut values = [0; N];
-    write_powers(placed, c / capacity, c % capacity + 1, &mut values);
+    let mut powers = [0; N];
+    write_powers(values, exponent, &mut powers);
     let mut plain = [0; N];
-    pack(&values, &mut plain);
+    pack(&powers, &mut plain);
     encrypt(alloc, key, seed, c, &plain)
 }
 
-// Writes the powers of a row's slot values with an exponent, modulo the plaintext modulus.
-fn write_powers(placed: &[Placed], row: u32, exponent: u32, out: &mut [u32])
-    requires few { row < 2400 }
+// Writes the powers of slot values with an exponent, modulo the plaintext modulus.
+fn write_powers(values: &Slots, exponent: u32, out: &mut [u32])
     requires places { length out.now ≡ ring_degree }
-    ensures powers { out.new ≡ slot_powers placed.now row exponent }
+    ensures powers { out.new ≡ powers_of values.now exponent }
     ensures plaintexts { IsPolynomial plain_modulus out.new }
 {
     for (slot, place) in out.iter_mut().enumerate() {
-        let value = query_value(placed, row as usize, slot);
-        *place = pow(Modulus::T, u64::from(value), u64::from(exponent)) as u32;
+        let value = u64::from(values.value(slot));
+        *place = pow(Modulus::T, value, u64::from(exponent)) as u32;
     }
 }
 
-// The value of a slot of a row.
-#[tactic(auto, unfolding(crate::specs::Queries::query_value))]
-fn query_value(placed: &[Placed], row: usize, slot: usize) -> u32
-    requires row { row < 2400 }
-    requires slot { slot < ring_degree }
-    ensures value { result ≡ query_value placed.now row slot }
-    ensures below { result < plain_modulus }
+// The slot values of each row.
+fn values_of_rows(alloc: Global, placed: &[Placed], rows: u8) -> Result<Vec<Slots>, AllocError>
+    ensures { IfOk result (λ values. values.items ≡ map (row_values placed.now) (range_with_len 0 rows)) }
 {
-    if slot < PARTS * BINS {
-        bin_value(placed, BINS * row + slot / PARTS, slot % PARTS)
-    } else {
-        EMPTY
+    let mut values = Vec::new(alloc);
+    for row in 0..usize::from(rows) {
+        values.push(values_of_row(alloc, placed, row)?)?;
     }
+    Ok(values)
 }
 
-// One part's value at a position.
-fn bin_value(placed: &[Placed], position: usize, part: usize) -> u32
-    requires { part < 5 }
-    ensures value { result ≡ bin_value placed.now position part }
-    ensures below { result < plain_modulus }
+// The slot values of a row. Of tags at one position the first stands there, so it is written last.
+fn values_of_row(alloc: Global, placed: &[Placed], row: usize) -> Result<Slots, AllocError>
+    ensures { IfOk result (λ values. values ≡ row_values placed.now row) }
 {
-    for x in placed {
-        if usize::from(x.position) == position {
-            return u32::from(slots(&x.tag)[part]);
+    let mut values = Slots::filled(alloc, EMPTY)?;
+    for i in (0..placed.len()).rev() {
+        let x = &placed[i];
+        let position = usize::from(x.position);
+        if position / BINS == row {
+            write_tag(&mut values, position % BINS, &x.tag);
         }
     }
-    EMPTY
+    Ok(values)
+}
+
+// Writes a tag's slot values into the slots of a bin.
+fn write_tag(values: &mut Slots, bin: usize, tag: &Tag)
+    requires bin { bin < bins_of_row }
+    requires whole { length values.old ≡ ring_degree }
+    ensures size { length values.new ≡ length values.old }
+    ensures written { (slot : ℕ) → slice_index values.new slot ≡ (if slot / 5 == bin then slot_value tag.now (slot % 5) else slice_index values.old slot) }
+{
+    let own = slots(tag);
+    for part in 0..PARTS {
+        values.set(PARTS * bin + part, u32::from(own[part]));
+    }
 }

@@ -6,3 +6,4 @@ pub mod Inverses
 pub mod Composition
 pub mod Filling
 pub mod Moduli
+pub mod RootFacts

@@ -47,3 +47,21 @@ root_inverse = 58355
 -- the inverse of the ring's degree modulo the plaintext modulus
 unfoldable pub degree_inverse : ℕ
 degree_inverse = 65521
+
+-- for each modulus, a number whose power of the ring's degree is -1 modulo it
+unfoldable pub root_of : Modulus → ℕ
+root_of moduli.Q1 = 5546991020
+root_of moduli.Q2 = 41019061109
+root_of moduli.T = root
+
+-- its inverse modulo that modulus
+unfoldable pub root_inverse_of : Modulus → ℕ
+root_inverse_of moduli.Q1 = 3420924950
+root_inverse_of moduli.Q2 = 47889506294
+root_inverse_of moduli.T = root_inverse
+
+-- the inverse of the ring's degree modulo that modulus
+unfoldable pub degree_inverse_of : Modulus → ℕ
+degree_inverse_of moduli.Q1 = 68702625811
+degree_inverse_of moduli.Q2 = 68702453821
+degree_inverse_of moduli.T = degree_inverse

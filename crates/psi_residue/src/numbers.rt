@@ -1,5 +1,6 @@
 ghost use Rattle.std.specs.Prelude.{◌≡◌, ◌+◌, ◌*◌, ◌%◌, ◌<◌, ◌^◌};
-ghost use Rattle.psi_residue.specs.Numbers.{modulus_of, first_modulus, second_modulus, plain_modulus, cipher_modulus, ring_degree, scale, scale_rest, root, root_inverse, degree_inverse};
+ghost use Rattle.psi_residue.specs.Numbers.{modulus_of, first_modulus, second_modulus, plain_modulus, cipher_modulus, ring_degree, scale, scale_rest, root, root_inverse, degree_inverse, root_of, root_inverse_of, degree_inverse_of};
+ghost use Rattle.psi_residue.specs.declared.numbers.Modulus.{Modulus};
 
 /// The number of coefficients of a polynomial.
 pub const N: usize = 4096;
@@ -53,4 +54,7 @@ pub fn constants_agree()
     ensures root_of_minus_one { (root ^ ring_degree + 1) % plain_modulus ≡ 0 }
     ensures root_inverse { (root * root_inverse) % plain_modulus ≡ 1 }
     ensures degree_inverse { (ring_degree * degree_inverse) % plain_modulus ≡ 1 }
+    ensures roots_of_minus_one { (m : Modulus) → (root_of m ^ ring_degree + 1) % modulus_of m ≡ 0 }
+    ensures root_inverses { (m : Modulus) → (root_of m * root_inverse_of m) % modulus_of m ≡ 1 }
+    ensures degree_inverses { (m : Modulus) → (ring_degree * degree_inverse_of m) % modulus_of m ≡ 1 }
 {}

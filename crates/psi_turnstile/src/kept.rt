@@ -18,6 +18,7 @@ pub trait Kept {
 }
 
 /// What is done to the value within one turn.
+///
 /// `can` is its condition, on the act, the base and the history, and stays true as the history grows.
 /// `does` is what it does, between the act, the base and the history before and the act, the history and the result after.
 /// An act adds one entry or none, and leaves the base as it is.
@@ -28,6 +29,7 @@ pub trait Act<B: Kept> {
 
     ghost does: { Self → B.Base → List B.Entry → Self → List B.Entry → Self.Out → Type 0 };
 
+    /// Does it once. The act's condition holds for the value's base and history.
     fn act(&mut self, book: &mut B) -> Self::Out
         requires { can self.old (B.base book.old) (B.entries book.old) }
         ensures base { B.base book.new ≡ B.base book.old }

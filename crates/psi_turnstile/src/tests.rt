@@ -31,10 +31,22 @@ impl Kept for Purse {
     }
 }
 
-// Pays an amount, and says whether it was paid: not over the limit, nor without memory.
+// Pays an amount after so many steps, and says whether it was paid: not over the limit, nor without memory.
 #[derive(Drop)]
 struct Pay {
     amount: u64,
+    steps: u32,
+}
+
+// Takes time, and gives a number that is not 0.
+fn linger(steps: u32) -> u64 {
+    let mut number = 1u64;
+    for _ in 0..steps {
+        number = number
+            .wrapping_mul(6364136223846793005)
+            .wrapping_add(1442695040888963407);
+    }
+    number
 }
 
 impl Act<Purse> for Pay {
@@ -45,7 +57,7 @@ impl Act<Purse> for Pay {
     ghost does = { λ a limit before _ after paid. (sum after ≤ limit) × (IsTrue paid → after ≡ before ++ a.amount ∷ []) × (IsFalse paid → after ≡ before) };
 
     fn act(&mut self, book: &mut Purse) -> bool {
-        if self.amount > book.limit - book.paid {
+        if self.amount > book.limit - book.paid || linger(self.steps) == 0 {
             return false;
         }
         book.pay(self.amount)
@@ -74,14 +86,19 @@ fn settle<R: Threads + Wait + Sync>(
     rt: &R,
     purses: &Turnstile<Purse>,
     seat: &mut Seat<Purse>,
-    amount: u64,
+    mut pay: Pay,
 ) -> Option<u64>
     requires { seat.old.turnstile ≡ purses.now }
     ensures here { seat.new.turnstile ≡ seat.old.turnstile }
     ensures legal { (limit : ℕ) × (seat.old.knows.base ≡ Some limit) × (sum seat.new.knows.seen ≤ limit) }
 {
-    let (paid, length) = purses.turn(rt, seat, &mut Pay { amount });
+    let (paid, length) = purses.turn(rt, seat, &mut pay);
     if paid { Some(length - 1) } else { None }
+}
+
+// A payment that takes no time.
+fn quick(amount: u64) -> Pay {
+    Pay { amount, steps: 0 }
 }
 
 fn empty(alloc: Global) -> Purse {
@@ -98,7 +115,7 @@ fn a_seat_sees_what_another_put(rt: HostRuntime) -> Result<(), Fail> {
         panic!(rt; "no memory")
     };
     let mut second = purses.split(&mut first);
-    let put = settle(&rt, &purses, &mut second, 7);
+    let put = settle(&rt, &purses, &mut second, quick(7));
     let looked = purses.peek(&mut first);
     assert_eq!(rt; (put, looked, second.share()), (Some(0), 1, 2147483648));
     let note = purses.split(&mut second);
@@ -111,7 +128,24 @@ fn a_seat_sees_what_another_put(rt: HostRuntime) -> Result<(), Fail> {
     Ok(())
 }
 
-// A hundred payments, and the place of each.
+#[test]
+fn a_turnstile_goes_on_from_the_history_that_it_finds(rt: HostRuntime) -> Result<(), Fail> {
+    let mut found = empty(rt.alloc());
+    assert!(rt; quick(5).act(&mut found));
+    assert!(rt; quick(6).act(&mut found));
+    let Ok((purses, mut seat)) = Turnstile::open(rt.alloc(), found) else {
+        panic!(rt; "no memory")
+    };
+    assert_eq!(rt; (seat.seen(), purses.peek(&mut seat)), (2, 2));
+    assert_eq!(rt; settle(&rt, &purses, &mut seat, quick(7)), Some(2));
+    assert_eq!(rt; seat.share(), 4294967296);
+    let purse = purses.close(seat);
+    assert_eq!(rt; purse.payments.as_slice(), [5, 6, 7].as_slice());
+    Ok(())
+}
+
+// A hundred payments, and the place of each. The first takes so long that the other thread comes and sleeps at the
+// turnstile: without a wake-up it would sleep for ever.
 fn pay_often<R: Threads + Wait + Sync>(
     rt: &R,
     purses: &Turnstile<Purse>,
@@ -122,7 +156,9 @@ fn pay_often<R: Threads + Wait + Sync>(
 {
     let mut places = [u64::MAX; 100];
     for turn in 0..100usize {
-        places[turn] = settle(rt, purses, &mut seat, 1).unwrap_or(u64::MAX);
+        let steps = if turn == 0 { 200_000_000 } else { 0 };
+        let pay = Pay { amount: 1, steps };
+        places[turn] = settle(rt, purses, &mut seat, pay).unwrap_or(u64::MAX);
     }
     (seat, places)
 }

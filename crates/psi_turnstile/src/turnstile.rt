@@ -20,6 +20,8 @@ use std::thread::Threads;
 const WHOLE: u64 = 1 << 32;
 
 /// A ticket lock over one value. In clauses it is the identity of its table.
+///
+/// Each call that takes a seat has the condition that the seat is of this turnstile.
 #[derive(Drop)]
 pub struct Turnstile<B: Kept> {
     board: Board<B>,
@@ -34,7 +36,8 @@ impl<B: Kept> Model for Turnstile<B> {
 }
 
 /// A caller's token. In clauses it is its turnstile and what the seat knows.
-/// Dropping it gives up its share.
+///
+/// Dropping it gives up its share, and then the turnstile cannot be closed any more.
 #[derive(Drop)]
 pub struct Seat<B: Kept> {
     token: Token<B>,
@@ -84,8 +87,10 @@ fn only<B>(mut slots: Vec<Option<B>, Global>) -> B
 }
 
 impl<B: Kept> Turnstile<B> {
-    /// A turnstile over the value, and its first seat, which has seen the whole history and has the share 2^32.
-    /// Where there is no memory, the value comes back.
+    /// A turnstile over the value, and its first seat, which has seen the whole history, has no own place and has the
+    /// share 2^32. It has no condition: the value's history may be of any length.
+    ///
+    /// Where there is no memory, the value comes back as it was. No other call takes memory.
     pub fn open(alloc: Global, book: B) -> Result<(Turnstile<B>, Seat<B>), OpenRefused<B>>
         ensures here { IfOk result (λ t. t.1.turnstile ≡ t.0) }
         ensures seat { IfOk result (λ t. t.1.knows ≡ opener B.base B.entries book) }
@@ -114,7 +119,11 @@ impl<B: Kept> Turnstile<B> {
     }
 
     /// Waits for its turn, does the act once on the value, and answers its result and the length of the history then.
-    /// The history that the act meets begins with all that the seat has seen and taken in, and the seat has seen what the act leaves.
+    ///
+    /// The seat is of this turnstile. The act's condition (`Act::can`) holds for the turnstile's base and the history
+    /// that the seat has seen. The history that the act meets begins with all that the seat has seen and taken in, and
+    /// the seat has seen what the act leaves. The entry that the act made, if it made one, is the last of the seat's
+    /// own places.
     pub fn turn<R: Threads + Wait + Sync, A: Act<B>>(
         &self,
         rt: &R,
@@ -145,6 +154,8 @@ impl<B: Kept> Turnstile<B> {
     }
 
     /// Looks at the history, and answers its length. It waits for nobody.
+    ///
+    /// The seat is of this turnstile. The history begins with all that the seat has seen and taken in.
     pub fn peek(&self, seat: &mut Seat<B>) -> u64
         requires { seat.old.turnstile ≡ self.now }
         ensures here { seat.new.turnstile ≡ seat.old.turnstile }
@@ -158,7 +169,10 @@ impl<B: Kept> Turnstile<B> {
         count
     }
 
-    /// A new seat, which has seen the same, has no own place, and has half of the share, rounded down.
+    /// A new seat, which has seen the same, has no own place, and has half of the share, rounded down. It waits for
+    /// nobody.
+    ///
+    /// The seat is of this turnstile, and its share is at least 2.
     pub fn split(&self, seat: &mut Seat<B>) -> Seat<B>
         requires here { seat.old.turnstile ≡ self.now }
         requires two { 2 ≤ seat.old.knows.share }
@@ -176,7 +190,10 @@ impl<B: Kept> Turnstile<B> {
         }
     }
 
-    /// Takes another seat in: its own places, its share, and all that it had seen, with which the seat's next look begins. It waits for nobody.
+    /// Takes another seat in: its own places, its share, and all that it had seen, with which the seat's next look
+    /// begins. It waits for nobody.
+    ///
+    /// Both seats are of this turnstile. No place is both of the one and of the other.
     pub fn join(&self, seat: &mut Seat<B>, other: Seat<B>)
         requires here { seat.old.turnstile ≡ self.now }
         requires other { other.turnstile ≡ self.now }
@@ -195,7 +212,10 @@ impl<B: Kept> Turnstile<B> {
         seat.share += share;
     }
 
-    /// Takes another seat in, and looks. What either had seen begins the history of which the length is answered. It waits for nobody.
+    /// Takes another seat in, and looks. What either had seen begins the history of which the length is answered. It
+    /// waits for nobody.
+    ///
+    /// Both seats are of this turnstile.
     pub fn meet(&self, seat: &mut Seat<B>, note: Seat<B>) -> u64
         requires here { seat.old.turnstile ≡ self.now }
         requires note { note.turnstile ≡ self.now }
@@ -210,7 +230,10 @@ impl<B: Kept> Turnstile<B> {
         self.peek(seat)
     }
 
-    /// Ends the turnstile with its only seat, and gives the value, which stands for the base and the whole history. It waits for nobody.
+    /// Ends the turnstile with its only seat, and gives the value, which stands for the base and the whole history. It
+    /// waits for nobody.
+    ///
+    /// The seat is of this turnstile and has the whole share, 2^32, so that no other seat is left.
     pub fn close(self, seat: Seat<B>) -> B
         requires here { seat.turnstile ≡ self }
         requires whole { seat.knows.share ≡ 2 ^ 32 }

@@ -48,7 +48,6 @@ pub struct Ciphertexts {
 }
 
 impl Model for Ciphertexts {
-    ghost use Rattle.std.specs.Prelude.{List, ℕ};
 
     ghost Value = { List (List (List ℕ)) };
 

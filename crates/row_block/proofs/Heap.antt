@@ -3,12 +3,12 @@ use Rattle.std.proofs.Common.{◌≡◌, ℕ, ◌^◌, ◌<◌, Bool, true, fals
 use seplogic.Ra.Ura.{Ura}
 use mir.Syntax.{Ty, impl, tnil, dnil}
 use mir.Val.{Val, vint, vptr, vunit, of_list}
-use base.Logic.{SProp, ent, sep, ex, guard, emp, fst∗, never, id⊢}
+use base.Logic.{SProp, ent, sep, guard, emp, fst∗, never, id⊢}
 use base.Fml.{Lft, Share, ftrue, fsep, flft, froom}
 use prog.Memory.{Memory, size, align, capped}
 use prog.Routine.{Routine}
 use types.Logic.{Logic, sem}
-use types.Kit.{‵, raw, ◌⊛◌, some, later, given, ◌$◌, ◌∵◌, !, qed, move, keep, drop, use0, use1, use2, split, join, pick, fsplit, fjoin, fpick, feq_l, feq_i, flt_i, check, show, await, updating, now as at_once, done}
+use types.Kit.{‵, raw, ◌⊛◌, some, later, ◌$◌, ◌∵◌, !, qed, move, keep, drop, use0, use1, use2, split, join, pick, fsplit, fjoin, fpick, feq_l, feq_i, flt_i, check, show, await, updating, now as at_once, done}
 use types.Match.{live}
 use contract.Monad.{Fun, fact, fact_i}
 use denote.Builtin.{unit}

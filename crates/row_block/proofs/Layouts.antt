@@ -1,5 +1,5 @@
 -- The rows of a block in its words: reading, pushing and clearing, and what is true of them.
-use Rattle.std.proofs.Common.{◌≡◌, ℕ, zero, suc, ◌+◌, ◌-◌, ◌*◌, ◌^◌, ◌<◌, ◌≤◌, List, [], ◌∷◌, ◌++◌, length, take, drop, length-take, length-drop, length-append, get_or, refl, sym, ap, subst, ◌∙◌, arith}
+use Rattle.std.proofs.Common.{◌≡◌, ℕ, zero, suc, ◌+◌, ◌*◌, ◌^◌, ◌<◌, ◌≤◌, List, [], ◌∷◌, ◌++◌, length, take, drop, length-take, length-drop, length-append, get_or, refl, sym, ap, subst, ◌∙◌, arith}
 use Rattle.std.proofs.Math.Seq.{take-take, drop-drop}
 use Rattle.std.proofs.lemmas.List.{take-append-le, drop-append-le, drop-take, take_all}
 use Rattle.std.proofs.lemmas.List.Elements.{All-take, All-drop, All-append}

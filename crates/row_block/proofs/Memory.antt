@@ -17,7 +17,7 @@ use denote.Memory.{part_at, shared_of}
 use denote.Slice.{elements_shared}
 use denote.Param.Laws.{Laws, of_field}
 use denote.Param.Shared.{copy_shared}
-use denote.RattleType.{RattleType, Valss}
+use denote.RattleType.{Valss}
 use denote.RawPtr.{Ptr, block_ptr, null_ptr, ptr_val, in_a_block, room_for, ◌+ₚ◌}
 use denote.Steps.{nothing, peeks}
 use denote.Struct.Field.{u64-field}

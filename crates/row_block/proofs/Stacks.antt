@@ -1,10 +1,10 @@
 -- A shelf's places: what giving and taking make of them.
-use Rattle.std.proofs.Common.{◌≡◌, ℕ, zero, suc, ◌+◌, ◌-◌, ◌<◌, ◌≤◌, Option, Some, None, List, [], ◌∷◌, ◌++◌, length, map, replicate, take, get_or, set, length-append, refl, sym, ap, subst, ◌∙◌, arith}
+use Rattle.std.proofs.Common.{◌≡◌, ℕ, zero, suc, ◌+◌, ◌-◌, ◌<◌, ◌≤◌, Option, Some, None, List, [], ◌∷◌, ◌++◌, length, map, replicate, get_or, set, length-append, refl, sym, ap, subst, ◌∙◌, arith}
 use Rattle.std.proofs.lemmas.List.{get_or_append_left}
 use Rattle.std.proofs.lemmas.List.Elements.{All-append}
 use Rattle.std.specs.List.{All}
 use Rattle.row_block.specs.Rows.{Block}
-use Rattle.row_block.specs.Shelves.{IsShelf, shelf_room}
+use Rattle.row_block.specs.Shelves.{IsShelf}
 use Rattle.row_block.specs.Places.{blocks_in, filled, kept_in, IsStacked}
 use Rattle.row_block.specs.declared.shelf.Shelf.TheInside.{Inside}
 
@@ -64,8 +64,8 @@ gives s b stacked less none =
     let room : 8 - n ≡ suc k = omega (arith, less) in
     let left : 8 - length (bs ++ b ∷ []) ≡ k = ap (λ (i : ℕ). 8 - i) one_more in
     let written : set s.places s.count (Some b) ≡ filled (bs ++ b ∷ []) =
-        ap (λ (l : List (Option Block)). set l s.count (Some b)) stacked.places ∙ ap (λ (i : ℕ). set (filled bs) i (Some b)) stacked.count
-        ∙ ap (λ (i : ℕ). set (map Some bs ++ replicate i None) n (Some b)) room ∙ set_behind bs b k ∙ ap (λ (i : ℕ). map Some (bs ++ b ∷ []) ++ replicate i None) (sym left) in
+    ap (λ (l : List (Option Block)). set l s.count (Some b)) stacked.places ∙ ap (λ (i : ℕ). set (filled bs) i (Some b)) stacked.count
+    ∙ ap (λ (i : ℕ). set (map Some bs ++ replicate i None) n (Some b)) room ∙ set_behind bs b k ∙ ap (λ (i : ℕ). map Some (bs ++ b ∷ []) ++ replicate i None) (sym left) in
     let kept : blocks_in (set s.places s.count (Some b)) ≡ bs ++ b ∷ [] = ap blocks_in written ∙ blocks_filled (bs ++ b ∷ []) (8 - length (bs ++ b ∷ [])) in
     record {
       kept = kept;
@@ -91,12 +91,12 @@ takes s stacked n count new got d is_none is_got =
     let long : length e.front ≡ n = omega (arith, ap length e.is, length-append e.front (e.last ∷ []), whole) in
     let room : length bs ≤ 8 = stacked.shelf.room in
     let before : s.places ≡ map Some (e.front ++ e.last ∷ []) ++ replicate k None =
-        stacked.places ∙ ap (λ (i : ℕ). map Some bs ++ replicate (8 - i) None) whole ∙ ap (λ (l : List Block). map Some l ++ replicate k None) e.is in
+    stacked.places ∙ ap (λ (i : ℕ). map Some bs ++ replicate (8 - i) None) whole ∙ ap (λ (l : List Block). map Some l ++ replicate k None) e.is in
     let found : get_or s.places n d ≡ Some e.last = ap (λ (l : List (Option Block)). get_or l n d) before ∙ ap (λ (i : ℕ). get_or (map Some (e.front ++ e.last ∷ []) ++ replicate k None) i d) (sym long) ∙ last_at e.front e.last k d in
     let more : suc k ≡ 8 - length e.front = omega (arith, long, whole, room) in
     let written : set s.places n new ≡ filled e.front =
-        ap (λ (o : Option Block). set s.places n o) is_none ∙ ap (λ (l : List (Option Block)). set l n None) before ∙ ap (λ (i : ℕ). set (map Some (e.front ++ e.last ∷ []) ++ replicate k None) i None) (sym long)
-        ∙ last_off e.front e.last k ∙ ap (λ (i : ℕ). map Some e.front ++ replicate i None) more in
+    ap (λ (o : Option Block). set s.places n o) is_none ∙ ap (λ (l : List (Option Block)). set l n None) before ∙ ap (λ (i : ℕ). set (map Some (e.front ++ e.last ∷ []) ++ replicate k None) i None) (sym long)
+    ∙ last_off e.front e.last k ∙ ap (λ (i : ℕ). map Some e.front ++ replicate i None) more in
     let kept : blocks_in (set s.places n new) ≡ e.front = ap blocks_in written ∙ blocks_filled e.front (8 - length e.front) in
     let all = subst (All (λ (x : Block). x.held ≡ [])) e.is stacked.shelf.cleared in
     record {

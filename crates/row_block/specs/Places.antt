@@ -1,5 +1,5 @@
 -- How the blocks of a shelf stand in its places.
-use Rattle.std.specs.Prelude.{◌≡◌, ℕ, ◌-◌, Option, Some, None, List, [], ◌∷◌, ◌++◌, length, map, replicate}
+use Rattle.std.specs.Prelude.{◌≡◌, ◌-◌, Option, Some, None, List, [], ◌∷◌, ◌++◌, length, map, replicate}
 use Rattle.row_block.specs.Rows.{Block}
 use Rattle.row_block.specs.Shelves.{IsShelf, shelf_room}
 use Rattle.row_block.specs.declared.shelf.Shelf.TheInside.{Inside}

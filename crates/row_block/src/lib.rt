@@ -6,6 +6,8 @@
 
 mod block;
 mod shelf;
+#[cfg(test)]
+mod tests;
 mod words;
 
 pub use block::RowBlock;

@@ -1,4 +1,4 @@
-ghost use Rattle.std.specs.Prelude.{◌≡◌, ◌<◌, ◌≤◌, [], ◌∷◌, ◌++◌, length, Some, None, MatchOption, IfSome};
+ghost use Rattle.std.specs.Prelude.{◌≡◌, ◌<◌, ◌≤◌, [], ◌∷◌, ◌++◌, length, Some, None, IfNone, IfSome, IsTrue, IsFalse};
 ghost use Rattle.row_block.specs.Rows.{cleared};
 ghost use Rattle.row_block.specs.Shelves.{shelf_room, IsShelf};
 
@@ -41,7 +41,8 @@ impl Shelf {
 
     /// The block that was given last, which leaves the shelf. `None` exactly where the shelf has none.
     pub fn take(&mut self) -> Option<RowBlock>
-        ensures taken { MatchOption result ((self.old ≡ []) × (self.new ≡ [])) (λ block. self.old ≡ self.new ++ block ∷ []) }
+        ensures none { IfNone result ((self.old ≡ []) × (self.new ≡ [])) }
+        ensures taken { IfSome result (λ block. self.old ≡ self.new ++ block ∷ []) }
         ensures cleared { IfSome result (λ block. block.held ≡ []) }
         ensures facts { IsShelf self.new }
     {
@@ -58,7 +59,7 @@ impl Shelf {
         ensures full { shelf_room ≤ length self.old → (result ≡ Some block) × (self.new ≡ self.old) }
         ensures facts { IsShelf self.new }
     {
-        if self.count == self.places.len() {
+        if self.is_full() {
             return Some(block);
         }
         let mut block = block;
@@ -66,5 +67,12 @@ impl Shelf {
         self.places[self.count] = Some(block);
         self.count += 1;
         None
+    }
+
+    fn is_full(&self) -> bool
+        ensures full { IsTrue result → shelf_room ≤ length self.now }
+        ensures room { IsFalse result → length self.now < shelf_room }
+    {
+        self.count == self.places.len()
     }
 }

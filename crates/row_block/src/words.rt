@@ -1,5 +1,5 @@
 // The memory of a block: words side by side in one allocation, of which the first ones are written.
-// All raw pointers of this crate are here, in `open`, `push_row`, `row` and the drop.
+// All raw pointers of this crate are here, in `open`, `push_row`, `row` and the drop, which are proved by hand.
 ghost use Rattle.std.specs.Prelude.{◌≡◌, ℕ, ◌+◌, ◌*◌, ◌^◌, ◌<◌, ◌≤◌, List, [], ◌++◌, length, take, drop, IfOk};
 ghost use Rattle.row_block.specs.Memory.{words_owned, words_lent};
 
@@ -9,6 +9,7 @@ use std::slice;
 
 const WORD_SIZE: usize = 8;
 
+// `written` has the words that were written, from the start on. What lies behind them may hold anything.
 pub(crate) struct Words {
     start: *mut u64,
     room: usize,
@@ -25,6 +26,7 @@ impl Model for Words {
 }
 
 impl Words {
+    // One allocation, of which nothing is written.
     pub(crate) fn open(alloc: Global, room: usize) -> Result<Words, AllocError>
         requires { (0 < room) × (room ≤ 2 ^ 25) }
         ensures { IfOk result (λ w. (w.room ≡ room) × (w.written ≡ [])) }
@@ -39,6 +41,7 @@ impl Words {
         }
     }
 
+    // Writes the row's words from the place `from` on. The words below it stay, and those behind the row are let go.
     pub(crate) fn push_row(&mut self, from: usize, row: &[u64])
         requires { (from ≤ length self.old.written) × (from + length row.now ≤ self.old.room) }
         ensures { (self.new.room ≡ self.old.room) × (self.new.written ≡ take from self.old.written ++ row.now) }
@@ -53,6 +56,7 @@ impl Words {
         }
     }
 
+    // The `width` words from the place `from` on.
     pub(crate) fn row(&self, from: usize, width: usize) -> &[u64]
         requires { from + width ≤ length self.now.written }
         ensures { result.now ≡ take width (drop from self.now.written) }
@@ -61,6 +65,7 @@ impl Words {
     }
 }
 
+// Gives the allocation back to the heap.
 impl Drop for Words {
     fn drop(self) {
         unsafe {

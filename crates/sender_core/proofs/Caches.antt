@@ -1,6 +1,6 @@
 -- Caches beside bundles that stay or go.
 use Rattle.std.specs.Prelude.{◌≡◌, ℕ, zero, suc, Bool, true, false, List, [], ◌∷◌, ◌++◌, map, None, slice_index_or, slice_set, if◌then◌else◌}
-use Rattle.std.proofs.Common.{refl, ap, ◌∙◌, inl, inr}
+use Rattle.std.proofs.Common.{refl, sym, subst, ◌∙◌, inl, inr}
 use Rattle.psi_bundle.specs.Bins.{holds, bin_at}
 use Rattle.psi_bundle.specs.Versions.{Stamped, with_bin}
 use Rattle.sender_core.specs.declared.rows.Change.{Change}
@@ -18,7 +18,7 @@ module _ {C : Type 0} (stamp : ℕ) where
   -- one change after another
   same_after : (a b c : Kept C) → IsSameOrBare stamp a b → IsSameOrBare stamp b c → IsSameOrBare stamp a c
   same_after a b c (inl p) (inl q) = inl (q ∙ p)
-  same_after a b c (inr p) (inl q) = inr (ap (λ (k : Kept C). k.stamp) q ∙ p.0, ap (λ (k : Kept C). k.cache) q ∙ p.1)
+  same_after a b c (inr p) (inl q) = subst (IsSameOrBare stamp a) (sym q) (inr p)
   same_after a b c p (inr q) = inr q
 
   pub rows-after : (a b c : List (List (Kept C))) → KeepCaches stamp a b → KeepCaches stamp b c → KeepCaches stamp a c
@@ -27,13 +27,13 @@ module _ {C : Type 0} (stamp : ℕ) where
   module _ (new : Kept C) (bare : (new.stamp ≡ stamp) × (new.cache ≡ None)) where
     set_one : (ks : List (Kept C)) (i u : ℕ) (d : Kept C) → IsSameOrBare stamp (slice_index_or ks u d) (slice_index_or (slice_set ks i new) u d)
     set_one [] i u d = inl refl
-    set_one (k ∷ ks) zero zero d = inr bare
+    set_one (k ∷ ks) zero zero d = inr (inl bare.0, bare.1)
     set_one (k ∷ ks) zero (suc u) d = inl refl
     set_one (k ∷ ks) (suc i) zero d = inl refl
     set_one (k ∷ ks) (suc i) (suc u) d = set_one ks i u d
 
     append_one : (ks : List (Kept C)) (u : ℕ) (d : Kept C) → IsSameOrBare stamp (slice_index_or ks u d) (slice_index_or (ks ++ new ∷ []) u d)
-    append_one [] zero d = inr bare
+    append_one [] zero d = inr (inl bare.0, bare.1)
     append_one [] (suc u) d = inl refl
     append_one (k ∷ ks) zero d = inl refl
     append_one (k ∷ ks) (suc u) d = append_one ks u d
@@ -55,7 +55,7 @@ module _ {C : Type 0} (stamp : ℕ) where
 
   module _ (b : ℕ) (c : Change) (tag : List ℕ) where
     bare_case : (t : Bool) (k new : Kept C) → (new.stamp ≡ stamp) × (new.cache ≡ None) → IsSameOrBare stamp k (if t then new else k)
-    bare_case true k new bare = inr bare
+    bare_case true k new bare = inr (inl bare.0, bare.1)
     bare_case false k new bare = inl refl
 
     map_one : (ks : List (Kept C)) (u : ℕ) (d : Kept C) → IsSameOrBare stamp (slice_index_or ks u d) (slice_index_or (map (changed_bundle stamp b c tag) ks) u d)

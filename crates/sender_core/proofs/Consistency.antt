@@ -15,7 +15,7 @@ use Rattle.psi_bundle.specs.Versions.{Version, Row, IsSound, empty_version, plan
 use Rattle.psi_bundle.specs.Steps.{step}
 use Rattle.psi_bundle.specs.Histories.{after, replay, IsLegal, IsFitting}
 use Rattle.noise_ledger.specs.Verdicts.{ArePassed}
-use Rattle.sender_core.specs.Kept.{Kept, Contents, most_entries, row_of, rows_of, version_of, start_of, empty_contents, kept_row, kept_at, IsSameOrBare, IsAsBefore, IsStep, IsReady, IsStart, IsConsistent}
+use Rattle.sender_core.specs.Kept.{Kept, Contents, most_entries, row_of, rows_of, version_of, start_of, empty_contents, kept_row, kept_at, CacheSuits, IsSameOrBare, IsAsBefore, IsStep, IsReady, IsStart, IsConsistent}
 use Rattle.sender_core.specs.Sights.{with_cached_bins}
 use Rattle.sender_core.specs.Soundness.{HasRoom}
 use Rattle.sender_core.proofs.SoundSteps.{sound-empty}
@@ -28,41 +28,53 @@ legal-append v [] e l h = (h, tt)
 legal-append v (x ∷ es) e l h = (l.0, legal-append (after v x) es e l.1 h)
 
 -- no bundles, no stamps
-unstamped : (n : ℕ) → All (λ row. All (λ u. u.stamp ≡ 0) row) (replicate {A = Row} n [])
+pub unstamped : (n : ℕ) → All (λ row. All (λ u. u.stamp ≡ 0) row) (replicate {A = Row} n [])
 unstamped n = All-replicate (λ row. All (λ u. u.stamp ≡ 0) row) n [] (All-nil (λ u. u.stamp ≡ 0))
 
-module _ {C : Type 0} (contents : C → List (List Member)) (is_under : C → List ℕ → Type 0) where
-  -- a cache is for the bundle where it stands
-  abbrev Suits : Parameters → Kept C → Type 0
-  Suits p k = IfSome k.cache (λ c. (contents c ≡ k.bins) × is_under c (parameter_bytes p))
+-- one step of a book, and what it keeps
+module _ {C : Type 0} (old new : Contents C) (c : Call) (answer : Answer) (h : IsStep old new c answer) where
+  abbrev entry : Entry
+  entry = record { call = c; answer = answer }
 
-  still_suits : (p : Parameters) (stamp : ℕ) (old new : Kept C) → Suits p old → IsSameOrBare stamp old new → Suits p new
-  still_suits p stamp old new h (inl same) = subst (Suits p) (sym same) h
+  pub same-start : start_of old ≡ start_of new
+  same-start = λ i. record { parameters = sym h.same_parameters i; count = 0; labels = fin.from_entries (sym h.same_start i).labels; rows = (sym h.same_start i).rows }
+
+  pub legal-after : (start : Version) → IsLegal start old.journal → replay start old.journal ≡ version_of old → IsLegal start new.journal
+  legal-after start legal replayed =
+      let answered : answer ≡ (step (replay start old.journal) c).answer = h.answered ∙ ap (λ (w : Version). (step w c).answer) (sym replayed) in
+      subst (IsLegal start) (sym h.journal) (legal-append start old.journal entry legal answered)
+
+  pub replayed-after : (start : Version) → replay start old.journal ≡ version_of old → replay start new.journal ≡ version_of new
+  replayed-after start replayed =
+      ap (replay start) h.journal ∙ fold-append after start old.journal (entry ∷ []) ∙ ap (λ (w : Version). after w entry) replayed ∙ sym h.version
+
+  pub few-after : length old.journal < most_entries → length new.journal ≤ most_entries
+  few-after free = let more : length new.journal ≡ length old.journal + 1 = ap length h.journal ∙ length-append old.journal (entry ∷ []) in omega (arith, more, free)
+
+module _ {C : Type 0} (contents : C → List (List Member)) (is_under : C → List ℕ → Type 0) where
+  still_suits : (p : Parameters) (stamp : ℕ) (old new : Kept C) → CacheSuits contents is_under p old → IsSameOrBare stamp old new → CacheSuits contents is_under p new
+  still_suits p stamp old new h (inl same) = subst (CacheSuits contents is_under p) (sym same) h
   still_suits p stamp old new h (inr bare) = subst (λ (o : Option C). IfSome o (λ c. (contents c ≡ new.bins) × is_under c (parameter_bytes p))) (sym bare.1) tt
 
+  pub caches-after : (old new : Contents C) (c : Call) (answer : Answer) → IsStep old new c answer → (p : Parameters) → ((r u : ℕ) → CacheSuits contents is_under p (kept_at (kept_row old.rows r) u)) → (r u : ℕ) → CacheSuits contents is_under p (kept_at (kept_row new.rows r) u)
+  caches-after old new c answer h p each r u = still_suits p (length old.journal + 1) (kept_at (kept_row old.rows r) u) (kept_at (kept_row new.rows r) u) (each r u) (h.caches r u)
+
   -- after one step
-  pub consistent-after : (old new : Contents C) (c : Call) (answer : Answer) → IsConsistent contents is_under old → length old.journal < most_entries → IsFitting old.parameters c
+  consistent-after : (old new : Contents C) (c : Call) (answer : Answer) → IsConsistent contents is_under old → length old.journal < most_entries → IsFitting old.parameters c
       → IsStep old new c answer → IsConsistent contents is_under new
   consistent-after old new c answer was free fit h =
       let v = version_of old in
-      let e : Entry = record { call = c; answer = answer } in
-      let same = h.same_parameters in
       let room : HasRoom old.parameters = record { some_rows = was.passed.ranges.some_rows; some_members = was.passed.ranges.some_members } in
-      let start : start_of old ≡ start_of new =
-      λ i. record { parameters = sym same i; count = 0; labels = fin.from_entries (sym h.same_start i).labels; rows = (sym h.same_start i).rows } in
-      let answered : answer ≡ (step (replay (start_of old) old.journal) c).answer = h.answered ∙ ap (λ (w : Version). (step w c).answer) (sym was.replayed) in
-      let legal : IsLegal (start_of old) new.journal = subst (IsLegal (start_of old)) (sym h.journal) (legal-append (start_of old) old.journal e was.legal answered) in
-      let replayed : replay (start_of old) new.journal ≡ version_of new =
-      ap (replay (start_of old)) h.journal ∙ fold-append after (start_of old) old.journal (e ∷ []) ∙ ap (λ (w : Version). after w e) was.replayed ∙ sym h.version in
+      let start = same-start old new c answer h in
       record {
-        passed = subst ArePassed (sym same) was.passed;
+        passed = subst ArePassed (sym h.same_parameters) was.passed;
         sound = subst IsSound (sym h.version) (sound-step v c room was.sound fit);
         begun = subst IsStart start was.begun;
-        few = let more : length new.journal ≡ length old.journal + 1 = ap length h.journal ∙ length-append old.journal (e ∷ []) in omega (arith, more, free);
-        legal = subst (λ (w : Version). IsLegal w new.journal) start legal;
-        replayed = ap (λ (w : Version). replay w new.journal) (sym start) ∙ replayed;
-        caches = λ r u. still_suits new.parameters (length old.journal + 1) (kept_at (kept_row old.rows r) u) (kept_at (kept_row new.rows r) u)
-            (subst (λ (p : Parameters). Suits p (kept_at (kept_row old.rows r) u)) (sym same) (was.caches r u)) (h.caches r u);
+        few = few-after old new c answer h free;
+        legal = subst (λ (w : Version). IsLegal w new.journal) start (legal-after old new c answer h (start_of old) was.legal was.replayed);
+        replayed = ap (λ (w : Version). replay w new.journal) (sym start) ∙ replayed-after old new c answer h (start_of old) was.replayed;
+        caches = caches-after old new c answer h new.parameters
+            (λ r u. subst (λ (p : Parameters). CacheSuits contents is_under p (kept_at (kept_row old.rows r) u)) (sym h.same_parameters) (was.caches r u));
       }
 
   -- after a call that was refused
@@ -97,12 +109,12 @@ module _ {C : Type 0} (contents : C → List (List Member)) (is_under : C → Li
         few_entries = was.few;
       }
 
-  no_row : (n r : ℕ) → kept_row {C = C} (replicate n []) r ≡ []
+  pub no_row : (n r : ℕ) → kept_row {C = C} (replicate n []) r ≡ []
   no_row zero r = refl
   no_row (suc n) zero = refl
   no_row (suc n) (suc r) = no_row n r
 
-  rows_alone : (n : ℕ) → rows_of {C = C} (replicate n []) ≡ replicate n []
+  pub rows_alone : (n : ℕ) → rows_of {C = C} (replicate n []) ≡ replicate n []
   rows_alone zero = refl
   rows_alone (suc n) = ap (λ (rows : List Row). [] ∷ rows) (rows_alone n)
 
@@ -117,7 +129,7 @@ module _ {C : Type 0} (contents : C → List (List Member)) (is_under : C → Li
         few = omega arith;
         legal = tt;
         replayed = sym is;
-        caches = λ r u. subst (λ (ks : List (Kept C)). Suits p (kept_at ks u)) (sym (no_row p.rows r)) tt;
+        caches = λ r u. subst (λ (ks : List (Kept C)). CacheSuits contents is_under p (kept_at ks u)) (sym (no_row p.rows r)) tt;
       }
 
   -- a bundle is seen as it is kept
@@ -126,10 +138,10 @@ module _ {C : Type 0} (contents : C → List (List Member)) (is_under : C → Li
   seen_one p stamp bins (Some c) h = λ i. record { stamp = stamp; bins = h.0 i; cache = Some c }
   seen_one p stamp bins None h = refl
 
-  seen_row : (p : Parameters) (ks : List (Kept C)) → ((u : ℕ) → Suits p (kept_at ks u)) → map (with_cached_bins contents) ks ≡ ks
+  seen_row : (p : Parameters) (ks : List (Kept C)) → ((u : ℕ) → CacheSuits contents is_under p (kept_at ks u)) → map (with_cached_bins contents) ks ≡ ks
   seen_row p [] h = refl
   seen_row p (k ∷ ks) h = λ i. seen_one p k.stamp k.bins k.cache (h 0) i ∷ seen_row p ks (λ u. h (suc u)) i
 
-  pub seen_rows : (p : Parameters) (rows : List (List (Kept C))) → ((r u : ℕ) → Suits p (kept_at (kept_row rows r) u)) → map (map (with_cached_bins contents)) rows ≡ rows
+  pub seen_rows : (p : Parameters) (rows : List (List (Kept C))) → ((r u : ℕ) → CacheSuits contents is_under p (kept_at (kept_row rows r) u)) → map (map (with_cached_bins contents)) rows ≡ rows
   seen_rows p [] h = refl
   seen_rows p (ks ∷ rows) h = λ i. seen_row p ks (λ u. h 0 u) i ∷ seen_rows p rows (λ r u. h (suc r) u) i

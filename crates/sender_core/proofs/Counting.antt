@@ -9,7 +9,7 @@ use Rattle.item_slots.specs.Tags.{bins_of_row}
 use Rattle.psi_bundle.specs.Bins.{accepts, bin_at}
 use Rattle.psi_bundle.specs.Versions.{Row, first_fit, joined, placed_at, row_at, planes_of, cells_of}
 use Rattle.psi_residue.specs.Parameters.{Parameters}
-use Rattle.sender_core.specs.Kept.{Kept, stamped_of, row_of, rows_of, bundles_of}
+use Rattle.sender_core.specs.Kept.{Kept, stamped_of, row_of, rows_of, kept_row, bundles_of}
 
 -- how many bundles the rows have
 abbrev pub size_of : List Row → ℕ
@@ -60,3 +60,9 @@ pub few-after : {C : Type 0} (capacity stamp : ℕ) (m : Member) (before rows : 
 few-after capacity stamp m before rows ps made few three =
     let grown : size_of (rows_of rows) ≤ size_of (rows_of before) + length ps = subst (λ (rs : List Row). size_of rs ≤ size_of (rows_of before) + length ps) (sym made) (size-placed capacity stamp m ps (rows_of before)) in
     omega (arith, grown, size-kept rows, size-kept before, few, three)
+
+-- a row has at most all the bundles
+pub length-row : {C : Type 0} (rows : List (List (Kept C))) (r : ℕ) → length (kept_row rows r) ≤ bundles_of rows
+length-row [] r = omega arith
+length-row (ks ∷ rows) zero = omega (arith, sum_by-cons (λ (k : ℕ). k) (length ks) (map (λ (r : List _). length r) rows))
+length-row (ks ∷ rows) (suc r) = omega (arith, length-row rows r, sum_by-cons (λ (k : ℕ). k) (length ks) (map (λ (r : List _). length r) rows))

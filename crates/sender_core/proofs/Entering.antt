@@ -17,10 +17,10 @@ use Rattle.sender_core.specs.Kept.{Kept, Contents, version_of, rows_of, KeepCach
 use Rattle.sender_core.specs.States.{IsEntered}
 use Rattle.sender_core.proofs.Caches.{same-rows}
 
-first_of_two : (b : Bool) (x y : Step) → b ≡ true → (if b then x else y) ≡ x
+pub first_of_two : (b : Bool) (x y : Step) → b ≡ true → (if b then x else y) ≡ x
 first_of_two b x y e = rw e refl
 
-second_of_two : (b : Bool) (x y : Step) → b ≡ false → (if b then x else y) ≡ y
+pub second_of_two : (b : Bool) (x y : Step) → b ≡ false → (if b then x else y) ≡ y
 second_of_two b x y e = rw e refl
 
 -- the rows after first fit of a new tag
@@ -63,7 +63,7 @@ module _ {C : Type 0} (old new : Contents C) where
       λ i. record { parameters = h.parameters i; count = counted i; labels = h.labelled i; rows = rows_of (h.bundled i) }
 
   -- an entry with the step's answer, labels and rows
-  entered : (c : Call) (s : Step) (labels : Labels) (rows : List (List (Kept C))) → step (version_of old) c ≡ s → s.version ≡ next (version_of old) labels (rows_of rows)
+  pub entered : (c : Call) (s : Step) (labels : Labels) (rows : List (List (Kept C))) → step (version_of old) c ≡ s → s.version ≡ next (version_of old) labels (rows_of rows)
       → IsEntered old new labels rows (record { call = c; answer = s.answer }) → KeepCaches (length old.journal + 1) old.rows rows → IsStep old new c s.answer
   entered c s labels rows is to h keep = record {
     same_parameters = h.parameters;

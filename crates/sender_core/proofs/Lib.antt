@@ -6,7 +6,6 @@ pub mod SoundChanged
 pub mod SoundBins
 pub mod SoundPacked
 pub mod SoundSteps
-pub mod FirstFit
 pub mod Caches
 pub mod RowLists
 pub mod Counting
@@ -16,3 +15,8 @@ pub mod Consistency
 pub mod SoundRepacked
 pub mod SoundHistories
 pub mod HistoryBytes
+pub mod StampSteps
+pub mod StampHistories
+pub mod Repacking
+pub mod Installing
+pub mod Interleaving

@@ -10,13 +10,13 @@ use Rattle.psi_bundle.specs.declared.member.Member.{Member}
 use Rattle.psi_bundle.specs.declared.cached.Shown.{Shown}
 use Rattle.item_slots.specs.Tags.{bins_of_row}
 use Rattle.psi_bundle.specs.Bins.{accepts, holds, bin_at, empty_bins}
-use Rattle.psi_bundle.specs.Versions.{Stamped, Row, first_fit, joined, fresh, with_bin, placed_at, changed_at, row_at}
+use Rattle.psi_bundle.specs.Versions.{Stamped, Row, first_fit, joined, fresh, with_bin, placed_at, changed_at, row_at, greatest_stamp}
 use Rattle.sender_core.specs.declared.rows.Change.{Change}
 use Rattle.sender_core.specs.Kept.{Kept, stamped_of, row_of, rows_of, kept_row, RowKeepsCaches, KeepCaches}
 use Rattle.sender_core.specs.Shown.{kept_of, kept_of_row, kept_of_rows}
 use Rattle.sender_core.specs.Changes.{bin_after, changed_bundle}
 use Rattle.sender_core.proofs.Caches.{row-set, row-append, rows-set, rows-after, row-changed, changed-alone}
-use Rattle.sender_core.proofs.FirstFit.{position-map, position_passes, place-at, place-none}
+use Rattle.psi_bundle.proofs.FirstFit.{position-map, position_passes, place-at, place-none}
 
 -- one more position of a fold
 pub fold_more : {A : Type 0} (f : A → ℕ → A) (done after all : A) (ps : List ℕ) (i d : ℕ) → i < length ps → after ≡ f done (slice_index_or ps i d)
@@ -37,7 +37,7 @@ module _ {C : Type 0} where
   pub kept_rows-set : (items : List (Vec (Shown C) Global)) (r : ℕ) (v : Vec (Shown C) Global) → kept_of_rows (slice_set items r v) ≡ slice_set (kept_of_rows items) r (kept_of_row v.items)
   kept_rows-set items r v = map-set (λ (row : Vec (Shown C) Global). kept_of_row row.items) items r v
 
-  row-alone : (rows : List (List (Kept C))) (r : ℕ) → row_at (rows_of rows) r ≡ row_of (kept_row rows r)
+  pub row-alone : (rows : List (List (Kept C))) (r : ℕ) → row_at (rows_of rows) r ≡ row_of (kept_row rows r)
   row-alone rows r = get_or-map row_of rows r []
 
   -- a row with a member placed in it
@@ -62,8 +62,18 @@ module _ {C : Type 0} where
       (ap row_of is ∙ changed-alone stamp b c tag (kept_row rows (p / bins_of_row)) ∙ ap (map f) (sym (row-alone rows (p / bins_of_row))))
 
   -- a row that was replaced, after it was read
-  row-read : (items : List (Vec (Shown C) Global)) (r : ℕ) (old : Vec (Shown C) Global) → r < length items → old ≡ slice_index_or items r old → kept_row (kept_of_rows items) r ≡ kept_of_row old.items
+  pub row-read : (items : List (Vec (Shown C) Global)) (r : ℕ) (old : Vec (Shown C) Global) → r < length items → old ≡ slice_index_or items r old → kept_row (kept_of_rows items) r ≡ kept_of_row old.items
   row-read items r old lt here = kept_row-at items r old lt ∙ ap (λ (v : Vec (Shown C) Global). kept_of_row v.items) (sym here)
+
+  -- its length
+  pub length-read : (items : List (Vec (Shown C) Global)) (r : ℕ) (old : Vec (Shown C) Global) → r < length items → old ≡ slice_index_or items r old → length (kept_row (kept_of_rows items) r) ≡ length old.items
+  length-read items r old lt here = ap length (row-read items r old lt here) ∙ length-map old.items kept_of
+
+  -- its greatest stamp
+  pub newest-read : (items : List (Vec (Shown C) Global)) (r : ℕ) (old : Vec (Shown C) Global) (shown : List (Shown C)) (n : ℕ) → r < length items → old ≡ slice_index_or items r old
+      → n ≡ greatest_stamp (row_of (kept_of_row shown)) → shown ≡ old.items → n ≡ greatest_stamp (row_of (kept_row (kept_of_rows items) r))
+  newest-read items r old shown n lt here is same =
+      is ∙ ap (λ (us : List (Shown C)). greatest_stamp (row_of (kept_of_row us))) same ∙ ap (λ (ks : List (Kept C)). greatest_stamp (row_of ks)) (sym (row-read items r old lt here))
 
   -- one more position of a tag is placed
   pub placed-more : (capacity stamp : ℕ) (m : Member) (items : List (Vec (Shown C) Global)) (old new : Vec (Shown C) Global) (ps : List ℕ) (i : ℕ) (all : List Row)
@@ -127,7 +137,7 @@ module _ {C : Type 0} (capacity stamp b : ℕ) (m : Member) (items : List (Shown
         let at : kept_of r ≡ slice_index_or (kept_of_row items) i (kept_of r) = sym (get_or-map kept_of items i r ∙ ap kept_of (sym here)) in
         let to : stamped_of (kept_of new) ≡ joined stamp b m (stamped_of (kept_of r)) = ap stamped_of new_is
         ∙ ap (λ (bs : List (List Member)). record { stamp = stamp; bins = bs }) (changed_is ∙ ap (λ (bs : List (List Member)). slice_set bs b (bin_at bs b ++ m ∷ [])) is) in
-        ap row_of (map-set kept_of items i new) ∙ place-at capacity stamp b m (kept_of_row items) i (kept_of r) (kept_of new) found at to
+        ap row_of (map-set kept_of items i new) ∙ place-at stamped_of capacity stamp b m (kept_of_row items) i (kept_of r) (kept_of new) found at to
 
     pub caches-at : RowKeepsCaches stamp (kept_of_row items) (kept_of_row (slice_set items i new))
     caches-at =
@@ -142,7 +152,7 @@ module _ {C : Type 0} (capacity stamp b : ℕ) (m : Member) (items : List (Shown
     fitted-none =
         let found = position-map kept_of (λ (k : Kept C). accepts capacity (bin_at k.bins b) m.tag) items 0 ∙ e in
         let to : stamped_of (kept_of new) ≡ joined stamp b m (fresh stamp) = ap stamped_of new_is ∙ ap (λ (bs : List (List Member)). record { stamp = stamp; bins = bs }) made_is in
-        ap (λ (us : List (Shown C)). row_of (kept_of_row us)) after_is ∙ ap row_of (map-append kept_of items (new ∷ [])) ∙ place-none capacity stamp b m (kept_of_row items) (kept_of new) found to
+        ap (λ (us : List (Shown C)). row_of (kept_of_row us)) after_is ∙ ap row_of (map-append kept_of items (new ∷ [])) ∙ place-none stamped_of capacity stamp b m (kept_of_row items) (kept_of new) found to
 
     pub caches-none : RowKeepsCaches stamp (kept_of_row items) (kept_of_row after)
     caches-none =

@@ -10,7 +10,8 @@ use Rattle.item_slots.specs.Tags.{bins_of_row}
 use Rattle.psi_bundle.specs.Bins.{holds, bin_at}
 use Rattle.psi_bundle.specs.Versions.{Stamped, Row, row_at, bins_at, with_bin, changed_at}
 use Rattle.sender_core.proofs.SoundLists.{set-cases}
-use Rattle.sender_core.proofs.SoundPositions.{IsRising, IsIn, all-weaker, all-at}
+use Rattle.item_slots.proofs.PositionLaws.{IsRising, all-weaker}
+use Rattle.sender_core.proofs.SoundPositions.{IsIn, all-at}
 use Rattle.sender_core.proofs.SoundCells.{cell, cell_end, AreShaped, row-shaped}
 
 -- a change that leaves a bin alone that does not hold the tag

@@ -160,11 +160,11 @@ standing-packed capacity stamp (e ∷ es) row b tag h lt =
 -- ---- no more bundles than before
 
 -- members that one bin can hold
-pub record IsFitting (capacity : ℕ) (bin : List Member) : Type 0 where
+pub record CanStand (capacity : ℕ) (bin : List Member) : Type 0 where
   pub apart : AreApart bin
   pub within : length bin ≤ capacity
 
-fitting-without : (capacity : ℕ) (xs ys : List Member) (m : Member) → IsFitting capacity (xs ++ m ∷ ys) → IsFitting capacity (xs ++ ys)
+fitting-without : (capacity : ℕ) (xs ys : List Member) (m : Member) → CanStand capacity (xs ++ m ∷ ys) → CanStand capacity (xs ++ ys)
 fitting-without capacity xs ys m h =
     let whole = length-append xs (m ∷ ys) in
     let place : length xs < length (xs ++ m ∷ ys) = omega (arith, whole) in
@@ -176,7 +176,7 @@ fitting-without capacity xs ys m h =
     }
 
 -- the front of members that one bin can hold accepts the next of them
-fitting-accepts : (capacity : ℕ) (xs ys : List Member) (m : Member) → IsFitting capacity (xs ++ m ∷ ys) → accepts capacity xs m.tag ≡ true
+fitting-accepts : (capacity : ℕ) (xs ys : List Member) (m : Member) → CanStand capacity (xs ++ m ∷ ys) → accepts capacity xs m.tag ≡ true
 unfolding accepts
 fitting-accepts capacity xs ys m h =
     let whole = length-append xs (m ∷ ys) in
@@ -188,7 +188,7 @@ fitting-accepts capacity xs ys m h =
 
 -- the bins of the first bundle can hold the members that are still to come
 abbrev AreFitting : ℕ → Row → List (ℕ × Member) → Type 0
-AreFitting capacity row es = (b : ℕ) → IsFitting capacity (bin_at (bins_at row 0) b ++ of_bin b es)
+AreFitting capacity row es = (b : ℕ) → CanStand capacity (bin_at (bins_at row 0) b ++ of_bin b es)
 
 fitting-next : (capacity : ℕ) (e : ℕ × Member) (es : List (ℕ × Member)) (row new : Row) → AreFitting capacity row (e ∷ es)
     → ((b : ℕ) → StaysOrJoins capacity e.1 (b ≡ e.0) (bin_at (bins_at row 0) b) (bin_at (bins_at new 0) b)) → AreFitting capacity new es
@@ -196,12 +196,12 @@ fitting-next capacity e es row new h moves b =
     let bin = bin_at (bins_at row 0) b in
     elim (moves b) [
       | inl same ↦ elim (cases_eq e.0 b) [
-        | inl here ↦ subst (λ ms. IsFitting capacity (ms ++ of_bin b es)) (sym same) (fitting-without capacity bin (of_bin b es) e.1 (subst (λ ms. IsFitting capacity (bin ++ ms)) (of_bin-here b e es here) (h b)))
-        | inr other ↦ subst (λ ms. IsFitting capacity (ms ++ of_bin b es)) (sym same) (subst (λ ms. IsFitting capacity (bin ++ ms)) (of_bin-other b e es other) (h b))
+        | inl here ↦ subst (λ ms. CanStand capacity (ms ++ of_bin b es)) (sym same) (fitting-without capacity bin (of_bin b es) e.1 (subst (λ ms. CanStand capacity (bin ++ ms)) (of_bin-here b e es here) (h b)))
+        | inr other ↦ subst (λ ms. CanStand capacity (ms ++ of_bin b es)) (sym same) (subst (λ ms. CanStand capacity (bin ++ ms)) (of_bin-other b e es other) (h b))
       ]
       | inr took ↦
-          subst (λ ms. IsFitting capacity (ms ++ of_bin b es)) (sym took.1) (subst (λ ms. IsFitting capacity ms) (sym (append_assoc bin (e.1 ∷ []) (of_bin b es)))
-          (subst (λ ms. IsFitting capacity (bin ++ ms)) (of_bin-here b e es (sym took.0)) (h b)))
+          subst (λ ms. CanStand capacity (ms ++ of_bin b es)) (sym took.1) (subst (λ ms. CanStand capacity ms) (sym (append_assoc bin (e.1 ∷ []) (of_bin b es)))
+          (subst (λ ms. CanStand capacity (bin ++ ms)) (of_bin-here b e es (sym took.0)) (h b)))
     ]
 
 -- first fit changes the front alone, or passes it
@@ -225,7 +225,7 @@ unfolding first_fit
 one-bundle capacity stamp e es [] few h = omega arith
 one-bundle capacity stamp e es (x ∷ []) few h =
     let bin = bin_at x.bins e.0 in
-    let yes : accepts capacity bin e.1.tag ≡ true = fitting-accepts capacity bin (of_bin e.0 es) e.1 (subst (λ ms. IsFitting capacity (bin ++ ms)) (of_bin-here e.0 e es refl) (h e.0)) in
+    let yes : accepts capacity bin e.1.tag ≡ true = fitting-accepts capacity bin (of_bin e.0 es) e.1 (subst (λ ms. CanStand capacity (bin ++ ms)) (of_bin-here e.0 e es refl) (h e.0)) in
     subst (λ row. length row ≤ 1) (sym (cond-true (accepts capacity bin e.1.tag) (joined stamp e.0 e.1 x ∷ []) (x ∷ first_fit capacity stamp e.0 e.1 []) yes)) (omega arith)
 one-bundle capacity stamp e es (x ∷ y ∷ ys) few h = absurd (omega arith)
 
@@ -242,18 +242,18 @@ packs-bundle capacity stamp n (e ∷ es) front back some few one h =
           (fitting-next capacity e es back (first_fit capacity stamp e.0 e.1 back) h (λ b. joins-row capacity stamp e.0 e.1 back 0 b some)))
     ]
 
-packs-bundles : (capacity stamp n : ℕ) (row packed : Row) → 1 ≤ capacity → length packed ≤ n → ((u b : ℕ) → IsFitting capacity (bin_at (bins_at row u) b))
+packs-bundles : (capacity stamp n : ℕ) (row packed : Row) → 1 ≤ capacity → length packed ≤ n → ((u b : ℕ) → CanStand capacity (bin_at (bins_at row u) b))
     → length (fold (packed_on capacity stamp) packed (members_of_row row)) ≤ n + length row
 packs-bundles capacity stamp n [] packed some few h = omega arith
 packs-bundles capacity stamp n (x ∷ xs) packed some few h =
     let after = fold (packed_on capacity stamp) packed (members_from 0 x.bins) in
     let one : length after ≤ n + 1 =
     subst (λ row. length (fold (packed_on capacity stamp) row (members_from 0 x.bins)) ≤ n + 1) (append-nil packed)
-    (packs-bundle capacity stamp n (members_from 0 x.bins) packed [] some few (omega arith) (λ b. subst (λ ms. IsFitting capacity ms) (sym (of_bin-bundle b x)) (h 0 b))) in
+    (packs-bundle capacity stamp n (members_from 0 x.bins) packed [] some few (omega arith) (λ b. subst (λ ms. CanStand capacity ms) (sym (of_bin-bundle b x)) (h 0 b))) in
     let rest = packs-bundles capacity stamp (n + 1) xs after some one (λ u. h (suc u)) in
     let parts : fold (packed_on capacity stamp) packed (members_of_row (x ∷ xs)) ≡ fold (packed_on capacity stamp) after (members_of_row xs) = fold-append (packed_on capacity stamp) packed (members_from 0 x.bins) (members_of_row xs) in
     omega (arith, ap length parts, rest)
 
 -- first fit of a row's members needs no more bundles than the row has
-pub length-packed : (capacity stamp : ℕ) (row : Row) → 1 ≤ capacity → ((u b : ℕ) → IsFitting capacity (bin_at (bins_at row u) b)) → length (packed_row capacity stamp (members_of_row row)) ≤ length row
+pub length-packed : (capacity stamp : ℕ) (row : Row) → 1 ≤ capacity → ((u b : ℕ) → CanStand capacity (bin_at (bins_at row u) b)) → length (packed_row capacity stamp (members_of_row row)) ≤ length row
 length-packed capacity stamp row some h = omega (arith, packs-bundles capacity stamp 0 row [] some (omega arith) h)

@@ -11,7 +11,8 @@ use Rattle.item_slots.specs.Tags.{bins_of_row}
 use Rattle.psi_bundle.specs.Bins.{accepts, same_tag, shares_slot, bin_at, empty_bins}
 use Rattle.psi_bundle.specs.Versions.{Row, row_at, bins_at, standing, joined, fresh, first_fit, placed_at}
 use Rattle.sender_core.proofs.SoundLists.{set-cases, none-any_at, one_if}
-use Rattle.sender_core.proofs.SoundPositions.{IsRising, IsIn, all-weaker, all-at}
+use Rattle.item_slots.proofs.PositionLaws.{IsRising, all-weaker}
+use Rattle.sender_core.proofs.SoundPositions.{IsIn, all-at}
 use Rattle.sender_core.proofs.SoundCells.{cell, AreShaped, row-shaped, bin_at-empty, length-empty, held, standing-cons}
 
 -- ---- one bin

@@ -14,13 +14,13 @@ use Rattle.psi_bundle.specs.declared.member.Member.{Member}
 use Rattle.psi_bundle.specs.declared.history.Call.{Call}
 use Rattle.psi_bundle.specs.declared.history.Call.TheVariants as call
 use Rattle.item_slots.specs.Tags.{bins_of_row, positions_of}
-use Rattle.item_slots.specs.PositionLaws.{positions-below}
+use Rattle.item_slots.proofs.PositionLaws.{positions-below, positions-rise}
 use Rattle.psi_bundle.specs.Bins.{same_tag, holds, without, relabelled}
 use Rattle.psi_bundle.specs.Versions.{Version, Labels, Row, row_at, placed, changed, planes_of, cells_of, empty_version, greatest_stamp, IsWithinLimits, HasLabelLength, IsSound}
 use Rattle.psi_bundle.specs.Steps.{Step, step, next, unchanged, fits, replace, add, remove}
 use Rattle.sender_core.specs.Soundness.{HasRoom}
 use Rattle.sender_core.proofs.SoundLists.{some_value, no_value}
-use Rattle.sender_core.proofs.SoundPositions.{IsIn, IsIn-from_Contains, Contains-from_IsIn, positions-rise}
+use Rattle.sender_core.proofs.SoundPositions.{IsIn, IsIn-from_Contains, Contains-from_IsIn}
 use Rattle.sender_core.proofs.SoundCells.{cell, nothing, AreShaped, held, held-none, standing-same, standing-none, same_tag-Decides, same_tag-apart, get-insert_same, get-insert_other, get-remove_same, get-remove_other}
 use Rattle.sender_core.proofs.SoundPlaced.{standing_at, placed-each, shaped-placed, standing-other_tags, standing-once, joined-within, joined-apart}
 use Rattle.sender_core.proofs.SoundChanged.{SparesOthers, changed-each, shaped-changed, lengths-changed}

@@ -15,3 +15,7 @@ bin_after change.Remove tag bin = without bin tag
 abbrev pub changed_bundle : {C : Type 0} → (stamp b : ℕ) → Change → List ℕ → Kept C → Kept C
 changed_bundle stamp b c tag k =
     if holds (bin_at k.bins b) tag then record { stamp = stamp; bins = slice_set k.bins b (bin_after c tag (bin_at k.bins b)); cache = None } else k
+
+-- a bundle with this stamp, and without a cache
+abbrev pub bare_with : {C : Type 0} → (stamp : ℕ) → List (List Member) → Kept C
+bare_with stamp bins = record { stamp = stamp; bins = bins; cache = None }

@@ -37,6 +37,19 @@ pub record View (C : Type 0) : Type 0 where
   pub place : ℕ
   pub rows : List (List (Kept C))
 
+-- the bundles of one row as they stood after the first `from` entries
+pub record RowSight (C : Type 0) : Type 0 where
+  pub row : ℕ
+  pub from : ℕ
+  pub bundles : List (Kept C)
+
+-- a bundle that stood in a row at an index, with its stamp
+pub record Job : Type 0 where
+  pub row : ℕ
+  pub index : ℕ
+  pub stamp : ℕ
+  pub bins : List (List Member)
+
 -- no tags, no bundles
 abbrev pub empty_start : Parameters → Start
 empty_start p = record { labels = []; rows = replicate p.rows [] }
@@ -88,15 +101,19 @@ module _ {C : Type 0} where
   abbrev pub kept_row : List (List (Kept C)) → ℕ → List (Kept C)
   kept_row rows r = slice_index_or rows r []
 
-  -- bundle number u of a row; past its end one without stamp, bins and cache
+  -- what stands past the end of a row: no bundle
+  abbrev pub no_bundle : Kept C
+  no_bundle = record { stamp = 0; bins = []; cache = None }
+
+  -- bundle number u of a row
   abbrev pub kept_at : List (Kept C) → ℕ → Kept C
-  kept_at row u = slice_index_or row u (record { stamp = 0; bins = []; cache = None })
+  kept_at row u = slice_index_or row u no_bundle
 
-  -- the bundle is as it was, or has this stamp and no cache
+  -- the bundle is as it was; or it has no cache, and has this stamp or is gone
   abbrev pub IsSameOrBare : ℕ → Kept C → Kept C → Type 0
-  IsSameOrBare stamp old new = (new ≡ old) ⊎ ((new.stamp ≡ stamp) × (new.cache ≡ None))
+  IsSameOrBare stamp old new = (new ≡ old) ⊎ (((new.stamp ≡ stamp) ⊎ (new ≡ no_bundle)) × (new.cache ≡ None))
 
-  -- each bundle of a row is as it was, with its cache, or has this stamp and no cache
+  -- each bundle of a row is as it was, with its cache, or has this stamp and no cache, or is gone
   abbrev pub RowKeepsCaches : ℕ → List (Kept C) → List (Kept C) → Type 0
   RowKeepsCaches stamp old new = (u : ℕ) → IsSameOrBare stamp (kept_at old u) (kept_at new u)
 
@@ -104,7 +121,7 @@ module _ {C : Type 0} where
   abbrev pub KeepCaches : ℕ → List (List (Kept C)) → List (List (Kept C)) → Type 0
   KeepCaches stamp old new = (r : ℕ) → RowKeepsCaches stamp (kept_row old r) (kept_row new r)
 
-  -- One step of a book: parameters and start stay, the call is answered as the step answers it, the version is the step's, the journal has one entry more, and each bundle that took the new stamp has no cache. It leaves open what room there is.
+  -- One step of a book: parameters and start stay, the call is answered as the step answers it, the version is the step's, the journal has one entry more, and each bundle that is not as it was has no cache. It leaves open what room there is.
   pub record IsStep (old new : Contents C) (c : Call) (answer : Answer) : Type 0 where
     pub same_parameters : new.parameters ≡ old.parameters
     pub same_start : new.start ≡ old.start
@@ -123,7 +140,11 @@ module _ {C : Type 0} where
     pub few_bundles : bundles_of h.rows ≤ 64
     pub few_entries : length h.journal ≤ most_entries
 
-  -- What is always true of a book. `contents` are the bins that a cache is for, and it is for them under the parameters with these bytes.
+  -- A cache beside a bundle is for that bundle. `contents` are the bins that a cache is for, and it is for them under the parameters with these bytes.
+  abbrev pub CacheSuits : (C → List (List Member)) → (C → List ℕ → Type 0) → Parameters → Kept C → Type 0
+  CacheSuits contents is_under p k = IfSome k.cache (λ c. (contents c ≡ k.bins) × is_under c (parameter_bytes p))
+
+  -- What is always true of a book.
   pub record IsConsistent (contents : C → List (List Member)) (is_under : C → List ℕ → Type 0) (h : Contents C) : Type 0 where
     -- the parameters are allowed
     pub passed : ArePassed h.parameters
@@ -136,4 +157,4 @@ module _ {C : Type 0} where
     pub legal : IsLegal (start_of h) h.journal
     pub replayed : replay (start_of h) h.journal ≡ version_of h
     -- each cache is for the bundle where it stands, under the book's parameters
-    pub caches : (r u : ℕ) → IfSome (kept_at (kept_row h.rows r) u).cache (λ c. (contents c ≡ (kept_at (kept_row h.rows r) u).bins) × is_under c (parameter_bytes h.parameters))
+    pub caches : (r u : ℕ) → CacheSuits contents is_under h.parameters (kept_at (kept_row h.rows r) u)

@@ -5,3 +5,8 @@ pub mod Answers
 pub mod Changes
 pub mod States
 pub mod Sights
+pub mod Stamps
+pub mod Given
+pub mod Tries
+pub mod Installs
+pub mod Events

@@ -23,6 +23,15 @@ pub enum DropAnswer {
     Absent,
 }
 
+/// What a Repack did.
+#[derive(Clone, Copy, Debug, PartialEq, Eq)]
+pub enum RepackAnswer {
+    /// The row had and has so many bundles.
+    Done { before: u16, after: u16 },
+    /// The row changed since it was viewed; this is its greatest stamp.
+    Moved { stamp: u64 },
+}
+
 /// An answer, and the place of the call's entry in the journal.
 #[derive(Drop)]
 pub struct Placed<T> {

@@ -1,12 +1,15 @@
 //! The book.
 ghost use Rattle.std.specs.Prelude.{◌≡◌, ◌-◌, ◌≤◌, ◌<◌, ◌^◌, ◌↔◌, ℕ, length, min, IfOk, IfErr, IfSome, IsNone, IsErr, OnErr, OnOk, slice_index_or};
 
-use crate::answers::{DropAnswer, ENTRIES, Placed, Put, Refusal};
+use crate::answers::{DropAnswer, ENTRIES, Placed, Put, Refusal, RepackAnswer};
+use crate::install::{Bare, Install};
 use crate::snapshot::Snapshot;
 use crate::state::State;
+use crate::task::{Task, bare_tasks};
+use crate::view::RowView;
 use item_slots::Tag;
 use noise_ledger::Params;
-use psi_bundle::{Cached, Entry, Label, Shown};
+use psi_bundle::{Bundle, Cached, Entry, Label, Shown};
 use std::alloc::{AllocError, Global};
 use std::marker::Model;
 
@@ -21,7 +24,7 @@ pub struct Book<C: Cached> {
 }
 
 impl<C: Cached> Model for Book<C> {
-    ghost use Rattle.sender_core.specs.Kept.{Contents, IsConsistent};
+    ghost use Rattle.sender_core.specs.Kept.{Contents, IsConsistent, version_of, start_of, kept_row, row_of, empty_contents, IsAsBefore, IsStep};
     ghost use Rattle.sender_core.specs.States.{contents_of};
 
     ghost Value = { Contents C };
@@ -38,9 +41,13 @@ impl<C: Cached + Drop> Book<C> {
     ghost use Rattle.psi_bundle.specs.declared.history.Answer.TheVariants.{Seen};
     ghost use Rattle.noise_ledger.specs.Verdicts.{ArePassed, parameters_of};
     ghost use Rattle.psi_bundle.specs.Versions.{HasLabelLength};
-    ghost use Rattle.sender_core.specs.Kept.{version_of, kept_row, empty_contents, IsAsBefore, IsConsistent, IsStep};
+    ghost use Rattle.psi_residue.specs.Parameters.{parameter_bytes};
+    ghost use Rattle.psi_bundle.specs.Shows.{packed_bins};
+    ghost use Rattle.sender_core.specs.Given.{row_sight_of, IsViewOf, IsJobOf};
+    ghost use Rattle.sender_core.specs.Tries.{job_of};
+    ghost use Rattle.sender_core.specs.Installs.{installed, install_answer, IsBareOf, IsGivenOf};
     ghost use Rattle.sender_core.specs.Shown.{kept_of_row};
-    ghost use Rattle.sender_core.specs.Answers.{answer_of_put, answer_of_drop, cause_at};
+    ghost use Rattle.sender_core.specs.Answers.{answer_of_put, answer_of_drop, answer_of_repack, cause_at, LeavesBare};
 
     /// The book of an empty set with these parameters. It starts from the empty version, has no entries, and no room
     /// for any yet. Condition: the parameters pass `check` of the crate `noise_ledger`.
@@ -154,6 +161,82 @@ impl<C: Cached + Drop> Book<C> {
             Ok(()) => Ok(Placed { answer, place }),
             Err(_) => Err(Refusal::NoMemory),
         }
+    }
+
+    /// Shows the bundles of a row as they stand, for a later `repack`. Condition: the row is below the parameters' rows. It
+    /// adds no entry.
+    pub fn fetch_row(&self, alloc: Global, row: u8) -> Result<RowView<C>, AllocError>
+        requires { row < self.now.parameters.rows }
+        ensures shown { IfOk result (λ view. view ≡ row_sight_of self.now row) }
+        ensures of_history { IfOk result (λ view. IsViewOf (start_of self.now) self.now.journal view) }
+    {
+        RowView::of(alloc, row, self.count(), self.bundles(row))
+    }
+
+    /// Packs a viewed row anew, where none of its bundles changed since the view: it is the step of a Repack of the view's
+    /// row and number of entries, and its entry is the next. `Moved` tells that a bundle of the row changed since. A row
+    /// that has no bundles by now stays so. Conditions: the view is of this book's history, and `packed` is the first fit
+    /// of its members, as `pack_row` of the crate `psi_packer` gives it.
+    ///
+    /// `JournalFull` comes exactly where the journal has 2^20 entries, before anything else is looked at. After a
+    /// refusal the book is as before, but for the room that it has for entries. A row that is packed has no caches.
+    pub fn repack(
+        &mut self,
+        alloc: Global,
+        view: &RowView<C>,
+        packed: Vec<Bundle>,
+    ) -> Result<Placed<RepackAnswer>, Refusal>
+        requires of_history { IsViewOf (start_of self.old) self.old.journal view.now }
+        requires packed { packed.items ≡ packed_bins self.old.parameters.capacity (row_of view.now.bundles) }
+        ensures stepped { IfOk result (λ placed. IsStep self.old self.new (Call.Repack view.now.row view.now.from) (answer_of_repack placed.answer)) }
+        ensures bare { IfOk result (λ placed. LeavesBare placed.answer (kept_row self.new.rows view.now.row)) }
+        ensures place { IfOk result (λ placed. placed.place ≡ length self.old.journal) }
+        ensures full { length self.old.journal ≡ 2 ^ 20 → IsErr result }
+        ensures cause { IfErr result (λ refusal. refusal ≡ cause_at (length self.old.journal)) }
+        ensures kept { OnErr result (IsAsBefore self.old self.new) }
+    {
+        let place = self.next_place()?;
+        match self.state.repack(alloc, view.row(), view.from(), packed) {
+            Ok(answer) => Ok(Placed { answer, place }),
+            Err(_) => Err(Refusal::NoMemory),
+        }
+    }
+
+    /// A bundle without a cache: of all of them, by row and then bundle, the one with the number `skip` modulo their number.
+    /// Where each bundle has a cache it is all bundles instead, with their caches. It adds no entry.
+    pub fn fetch_bare(&self, alloc: Global, skip: u16) -> Result<Bare<C>, AllocError>
+        ensures given { IfOk result (λ bare. IsBareOf self.now skip bare) }
+        ensures of_history { IfOk result (λ bare. IsGivenOf (start_of self.now) self.now.journal bare) }
+    {
+        let mut tasks = bare_tasks(alloc, &self.state.rows)?;
+        if tasks.is_empty() {
+            let shown = self.seen(alloc, self.count())?;
+            return Ok(Bare::All { shown });
+        }
+        let number = usize::from(skip) % tasks.len();
+        let task = tasks.swap_remove(number);
+        Ok(Bare::One { task })
+    }
+
+    /// Puts a cache beside its bundle, where the task's row still has that bundle: the same number with the same stamp. It
+    /// is `Stale` otherwise, and hands the cache back. It adds no entry. Conditions: the task is of this book's history,
+    /// and the cache is for the task's bundle under the book's parameters.
+    ///
+    /// Where there is no memory the cache is dropped, and the book is as before.
+    pub fn install(
+        &mut self,
+        alloc: Global,
+        task: &Task,
+        cache: C,
+    ) -> Result<Install<C>, AllocError>
+        requires of_history { IsJobOf (start_of self.old) self.old.journal (job_of task.now) }
+        requires same_bins { C.contents cache ≡ (job_of task.now).bins }
+        requires same_parameters { C.is_under cache (parameter_bytes self.old.parameters) }
+        ensures put_in { OnOk result (self.new ≡ installed self.old (job_of task.now) cache) }
+        ensures told { IfOk result (λ answer. answer ≡ install_answer self.old (job_of task.now) cache) }
+        ensures kept { OnErr result (self.new ≡ self.old) }
+    {
+        self.state.install(alloc, task, cache)
     }
 
     // The bundles as they stand, for the entry at this place.

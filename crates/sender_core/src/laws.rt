@@ -1,5 +1,9 @@
-//! Laws of the steps of a set.
+//! Laws of the steps of a set, and of a book's events.
 ghost use Rattle.sender_core.specs.Soundness.{EmptyHoldsBytes, EmptyIsSound, HistoriesKeepBytes, HistoriesKeepSetsSound, StepsKeepSetsSound};
+ghost use Rattle.sender_core.specs.Events.{EmptyIsFirst, Interleaved, NumbersInterleaved};
+ghost use Rattle.sender_core.specs.Stamps.{EqualStampsMeanEqualBundles, RowsStand, StampsTell};
+
+use psi_bundle::Cached;
 
 /// An empty set is sound, each step of a sound set leaves a sound set, and so each version of its history is
 /// sound, from whatever sound version it starts. A Put's label has the length of the set's labels. It does nothing:
@@ -16,4 +20,27 @@ pub fn steps_keep_sets_sound()
 pub fn histories_keep_bytes()
     ensures begins { EmptyHoldsBytes }
     ensures through { HistoriesKeepBytes }
+{}
+
+/// What stamps tell of every history from a start whose stamps are all 0: a bundle stood where it stands after as many entries
+/// as its stamp says; a row without a later stamp is as it was, or is empty; and equal stamps at one row and index are
+/// on equal bundles. It does nothing: the clauses are what it is for.
+pub fn stamps_tell()
+    ensures told { StampsTell }
+    ensures stand { RowsStand }
+    ensures equal { EqualStampsMeanEqualBundles }
+{}
+
+/// Whatever is put, dropped, asked, fetched, committed, installed and used, in whatever order: from a book without entries
+/// and caches, whose start is sound and has only stamps 0, the journal is legal from the start and replays to the version;
+/// each snapshot that is used shows exactly the bundles of the replay of as many entries as its place says; and each cache
+/// is for its bundle. Caches are numbers here, whatever each one is for. It does nothing: the clauses are what it is for.
+pub fn interleaved()
+    ensures begins { EmptyIsFirst }
+    ensures through { NumbersInterleaved }
+{}
+
+/// The same for any type of caches. It does nothing: the clause is what it is for.
+pub fn interleaved_with<C: Cached>()
+    ensures { Interleaved C.contents C.is_under }
 {}

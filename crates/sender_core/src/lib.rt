@@ -7,15 +7,25 @@
 
 mod answers;
 mod book;
+mod install;
 mod laws;
+mod receipt;
 mod rows;
 mod snapshot;
 mod state;
+mod task;
 #[cfg(test)]
 mod tests;
+mod view;
 
-pub use crate::answers::{DropAnswer, Placed, Put, Refusal};
+pub use crate::answers::{DropAnswer, Placed, Put, Refusal, RepackAnswer};
 pub use crate::book::Book;
-pub use crate::laws::steps_keep_sets_sound;
+pub use crate::install::{Bare, Install};
+pub use crate::laws::{
+    histories_keep_bytes, interleaved, interleaved_with, stamps_tell, steps_keep_sets_sound,
+};
+pub use crate::receipt::{Now, Receipt};
 pub use crate::snapshot::{Sight, Snapshot};
+pub use crate::task::Task;
+pub use crate::view::RowView;
 pub use psi_bundle::{Answer, Call, Entry};

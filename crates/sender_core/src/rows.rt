@@ -4,10 +4,10 @@ ghost use Rattle.std.specs.List.{All, fold, position_from, sum};
 ghost use Rattle.std.specs.Option.{option_map};
 ghost use Rattle.std.specs.Arc.{arc_value};
 ghost use Rattle.psi_bundle.specs.Bins.{accepts, holds, bin_at, empty_bins};
-ghost use Rattle.psi_bundle.specs.Versions.{first_fit, placed_at, changed_at};
-ghost use Rattle.sender_core.specs.Kept.{row_of, rows_of, bundles_of, RowKeepsCaches, KeepCaches};
+ghost use Rattle.psi_bundle.specs.Versions.{first_fit, placed_at, changed_at, greatest_stamp};
+ghost use Rattle.sender_core.specs.Kept.{row_of, rows_of, bundles_of, kept_at, RowKeepsCaches, KeepCaches};
 ghost use Rattle.sender_core.specs.Shown.{kept_of, kept_of_row, kept_of_rows};
-ghost use Rattle.sender_core.specs.Changes.{bin_after, changed_bundle};
+ghost use Rattle.sender_core.specs.Changes.{bin_after, changed_bundle, bare_with};
 
 use item_slots::Tag;
 use psi_bundle::{Bundle, Label, Member, Shown};
@@ -58,8 +58,11 @@ fn same<C: Drop>(shown: &Shown<C>) -> Result<Shown<C>, AllocError>
     })
 }
 
-// The same row.
-fn same_row<C: Drop>(alloc: Global, row: &[Shown<C>]) -> Result<Vec<Shown<C>>, AllocError>
+/// The same row.
+pub(crate) fn same_row<C: Drop>(
+    alloc: Global,
+    row: &[Shown<C>],
+) -> Result<Vec<Shown<C>>, AllocError>
     ensures { IfOk result (λ same. kept_of_row same.items ≡ kept_of_row row.now) }
 {
     let mut copy = Vec::with_capacity(alloc, row.len())?;
@@ -259,4 +262,39 @@ pub(crate) fn bundles<C>(rows: &[Vec<Shown<C>>]) -> u32
         bundles += row.len();
     }
     bundles as u32
+}
+
+/// The greatest stamp of a row, 0 where it has no bundle.
+pub(crate) fn newest<C>(row: &[Shown<C>]) -> u64
+    ensures { result ≡ greatest_stamp (row_of (kept_of_row row.now)) }
+{
+    let mut newest = 0;
+    for shown in row {
+        newest = newest.max(shown.stamp);
+    }
+    newest
+}
+
+/// These bundles, all with one stamp, and without caches.
+pub(crate) fn stamped<C: Drop>(
+    alloc: Global,
+    stamp: u64,
+    bundles: Vec<Bundle>,
+) -> Result<Vec<Shown<C>>, AllocError>
+    ensures { IfOk result (λ row. kept_of_row row.items ≡ map (bare_with stamp) bundles.items) }
+{
+    let mut row = Vec::with_capacity(alloc, bundles.len())?;
+    for bundle in bundles {
+        row.push(bare(alloc, stamp, bundle)?)?;
+    }
+    Ok(row)
+}
+
+/// Puts a cache beside a bundle of a row.
+pub(crate) fn put_cache<C: Drop>(row: &mut Vec<Shown<C>>, index: usize, cache: Arc<C>)
+    requires { index < length row.old.items }
+    ensures { kept_of_row row.new.items ≡ slice_set (kept_of_row row.old.items) index (record (kept_at (kept_of_row row.old.items) index) { cache = Some (arc_value cache) }) }
+{
+    let shown = &mut row[index];
+    shown.cache = Some(cache);
 }

@@ -27,7 +27,7 @@ pub struct Snapshot<C: Cached> {
 
 impl<C: Cached> Model for Snapshot<C> {
     ghost use Rattle.std.specs.Prelude.{map};
-    ghost use Rattle.sender_core.specs.Kept.{View};
+    ghost use Rattle.sender_core.specs.Kept.{View, kept_row};
     ghost use Rattle.sender_core.specs.Sights.{seen_row};
 
     ghost Value = { View C };
@@ -64,7 +64,6 @@ fn sights<C: Cached + Drop>(alloc: Global, row: &[Shown<C>]) -> Result<Vec<Sight
 }
 
 impl<C: Cached + Drop> Snapshot<C> {
-    ghost use Rattle.sender_core.specs.Kept.{kept_row};
 
     /// The bundles as they stand, for the entry at this place.
     pub(crate) fn of(

@@ -1,14 +1,18 @@
-//! What a book consists of, and the three ways in which an entry changes it.
-ghost use Rattle.std.specs.Prelude.{◌≡◌, ℕ, ◌-◌, ◌≤◌, ◌<◌, [], ◌∷◌, ◌++◌, true, false, length, min, IfOk, OnOk, OnErr, replicate, is_some};
+//! What a book consists of, the ways in which an entry changes it, and caches that come back.
+ghost use Rattle.std.specs.Prelude.{◌≡◌, ℕ, ◌-◌, ◌≤◌, ◌<◌, [], ◌∷◌, ◌++◌, true, false, length, min, IfOk, OnOk, OnErr, IsNone, replicate, is_some, slice_set};
 ghost use Rattle.sender_core.specs.Shown.{kept_of_rows};
 
-use crate::answers::{DropAnswer, ENTRIES, Put};
-use crate::rows::{Change, bundles, changed, placed};
+use crate::answers::{DropAnswer, ENTRIES, Put, RepackAnswer};
+use crate::install::Install;
+use crate::receipt::{Now, Receipt};
+use crate::rows::{Change, bundles, changed, newest, placed, put_cache, stamped};
+use crate::task::Task;
 use item_slots::{Tag, positions};
 use noise_ledger::Params;
-use psi_bundle::{Answer, Call, Entry, Label, Member, Shown};
+use psi_bundle::{Answer, Bundle, Call, Entry, Label, Member, Shown};
 use std::alloc::{AllocError, Global};
 use std::collections::BTreeMap;
+use std::sync::Arc;
 
 // The most planes and cells of a set.
 const PLANES: u32 = 64;
@@ -40,11 +44,14 @@ impl<C: Drop> State<C> {
     ghost use Rattle.psi_bundle.specs.Steps.{step};
     ghost use Rattle.psi_bundle.specs.declared.history.Call.TheVariants as Call;
     ghost use Rattle.noise_ledger.specs.Verdicts.{parameters_of};
-    ghost use Rattle.sender_core.specs.Kept.{version_of, empty_start, most_entries, IsAsBefore, IsStep, IsReady};
+    ghost use Rattle.sender_core.specs.Kept.{version_of, empty_start, most_entries, kept_row, IsAsBefore, IsStep, IsReady};
+    ghost use Rattle.sender_core.specs.Given.{IsPackedFor};
+    ghost use Rattle.sender_core.specs.Tries.{job_of, now_at};
+    ghost use Rattle.sender_core.specs.Installs.{installed, install_answer};
     ghost use Rattle.sender_core.specs.States.{contents_of, IsEntered};
-    ghost use Rattle.sender_core.specs.Shown.{kept_of_rows};
+    ghost use Rattle.sender_core.specs.Shown.{kept_of_row, kept_of_rows};
     ghost use Rattle.psi_bundle.specs.declared.history.Answer.TheVariants.{Removed, Seen};
-    ghost use Rattle.sender_core.specs.Answers.{answer_of_put, answer_of_drop};
+    ghost use Rattle.sender_core.specs.Answers.{answer_of_put, answer_of_drop, answer_of_repack, LeavesBare};
 
     /// No labels, no bundles, no entries.
     pub(crate) fn empty(alloc: Global, params: &Params) -> Result<State<C>, AllocError>
@@ -221,5 +228,108 @@ impl<C: Drop> State<C> {
             answer: Answer::Removed,
         });
         Ok(())
+    }
+    /// Packs a row anew, unless it has a stamp above `from` or no bundles.
+    pub(crate) fn repack(
+        &mut self,
+        alloc: Global,
+        row: u8,
+        from: u64,
+        packed: Vec<Bundle>,
+    ) -> Result<RepackAnswer, AllocError>
+        requires ready { IsReady (contents_of self.old) }
+        requires in_range { row < (contents_of self.old).parameters.rows }
+        requires packed { IsPackedFor (contents_of self.old) row from packed.items }
+        ensures stepped { IfOk result (λ answer. IsStep (contents_of self.old) (contents_of self.new) (Call.Repack row from) (answer_of_repack answer)) }
+        ensures bare { IfOk result (λ answer. LeavesBare answer (kept_row (contents_of self.new).rows row)) }
+        ensures kept { OnErr result (IsAsBefore (contents_of self.old) (contents_of self.new)) }
+    {
+        let stamp = newest(&self.rows[row as usize]);
+        let before = self.rows[row as usize].len() as u16;
+        if stamp > from {
+            self.note(Call::Repack { row, from }, Answer::Moved { stamp })?;
+            return Ok(RepackAnswer::Moved { stamp });
+        }
+        if before == 0 {
+            let (before, after) = (0, 0);
+            self.note(Call::Repack { row, from }, Answer::Done { before, after })?;
+            return Ok(RepackAnswer::Done { before, after });
+        }
+        let after = packed.len() as u16;
+        let bundles = stamped(alloc, self.count() + 1, packed)?;
+        self.put_in(row, from, bundles, Answer::Done { before, after })?;
+        Ok(RepackAnswer::Done { before, after })
+    }
+
+    // Adds the entry of a Repack, with other bundles in its row.
+    fn put_in(
+        &mut self,
+        row: u8,
+        from: u64,
+        bundles: Vec<Shown<C>>,
+        answer: Answer,
+    ) -> Result<(), AllocError>
+        requires { row < length (contents_of self.old).rows }
+        ensures entered { OnOk result (IsEntered (contents_of self.old) (contents_of self.new) (version_of (contents_of self.old)).labels (slice_set (contents_of self.old).rows row (kept_of_row bundles.items)) (record { call = Call.Repack row from; answer = answer })) }
+        ensures kept { OnErr result (IsAsBefore (contents_of self.old) (contents_of self.new)) }
+    {
+        self.journal.reserve(1)?;
+        self.rows[row as usize] = bundles;
+        self.journal.push_reserved(Entry {
+            call: Call::Repack { row, from },
+            answer,
+        });
+        Ok(())
+    }
+
+    // What a row has in place of a task's bundle.
+    fn now_at(&self, task: &Task) -> Option<Now>
+        requires ready { IsReady (contents_of self.now) }
+        requires in_range { task.now.row < (contents_of self.now).parameters.rows }
+        ensures now { result ≡ now_at (contents_of self.now).rows (job_of task.now) }
+        ensures there { IsNone result → task.now.index < length (kept_row (contents_of self.now).rows task.now.row) }
+    {
+        let row = &self.rows[task.row as usize];
+        match row.get(task.index as usize) {
+            None => Some(Now::Gone {
+                len: row.len() as u16,
+            }),
+            Some(shown) => {
+                if shown.stamp == task.stamp {
+                    None
+                } else {
+                    Some(Now::Stamp { stamp: shown.stamp })
+                }
+            }
+        }
+    }
+
+    /// Puts a cache beside a task's bundle, unless something else stands there by now.
+    pub(crate) fn install(
+        &mut self,
+        alloc: Global,
+        task: &Task,
+        cache: C,
+    ) -> Result<Install<C>, AllocError>
+        requires ready { IsReady (contents_of self.old) }
+        requires in_range { task.now.row < (contents_of self.old).parameters.rows }
+        ensures put_in { OnOk result (contents_of self.new ≡ installed (contents_of self.old) (job_of task.now) cache) }
+        ensures told { IfOk result (λ answer. answer ≡ install_answer (contents_of self.old) (job_of task.now) cache) }
+        ensures kept { OnErr result (contents_of self.new ≡ contents_of self.old) }
+    {
+        let now = self.now_at(task);
+        let receipt = Receipt::of(task, self.count(), now);
+        match now {
+            None => {
+                let cache = Arc::new(alloc, cache)?;
+                put_cache(
+                    &mut self.rows[task.row as usize],
+                    task.index as usize,
+                    cache,
+                );
+                Ok(Install::Installed { receipt })
+            }
+            Some(_) => Ok(Install::Stale { receipt, cache }),
+        }
     }
 }

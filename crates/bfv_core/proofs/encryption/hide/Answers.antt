@@ -1,27 +1,28 @@
-use Rattle.std.proofs.Common.{arith, rules, ℕ, ℤ, FitsSigned, w8, ◌+◌, ◌-◌, ◌*◌, ◌%◌, ◌<◌, ◌≡◌, ◌∙◌, ap, get_or, length, pos, subst, sym}
+use Rattle.std.proofs.Common.{arith, rules, ℕ, ℤ, FitsSigned, w8, ◌+◌, ◌-◌, ◌*◌, ◌%◌, ◌<◌, ◌≡◌, ◌∙◌, ap, get_or, length, pos, subst, sym, List}
 use Rattle.std.proofs.lemmas.Int.{to_z-of_z}
-use Rattle.psi_residue.specs.Numbers.{modulus_of, scale}
+use Rattle.psi_residue.specs.Numbers.{modulus_of}
+use Rattle.psi_residue.specs.Polynomials.{IsPolynomial}
 use Rattle.psi_residue.specs.Ring.{product_at}
 use Rattle.psi_residue.specs.Residues.{residue_of, residues_of}
-use Rattle.psi_residue.proofs.Sums.{same_as_table}
 use Rattle.psi_residue.proofs.Filling.{IsFilled-more}
-use Rattle.negacyclic.proofs.Products.{product_at-below}
-use Rattle.bfv_core.specs.EncryptedLists.{hidden}
 use Rattle.psi_residue.proofs.Moduli.{modulus-positive}
-use Rattle.bfv_core.proofs.Opening.{product-none}
+use Rattle.negacyclic.proofs.Products.{product_at-below}
+use Rattle.negacyclic.proofs.TransformLaws.{IsPolynomial-values_of}
+use Rattle.bfv_core.proofs.Scaling.{residues_of-polynomial, key_product-none, hidden_from}
 use Rattle.bfv_core.proofs.encryption.hide.Goals as goal
 
 pub loop-i-init : goal.loop-i-init
 loop-i-init c =
-    product-none (modulus_of c.args.m) c.args.key.now c.coefficients.result.now c.args.mask.now c.write_residues.new.out c.product_plain.new.out _
-    c.product_plain.ensures.product c.write_residues.ensures.residues c.coefficients.ensures.all (omega (arith, c.product_plain.ensures.reduced.size))
+    let m : ℕ = modulus_of c.args.m in
+    key_product-none m c.args.key.now c.args.mask.now c.times_values.new.out _
+    (c.times_values.ensures.product (residues_of m c.args.key.now) (residues_of-polynomial m c.args.key.now (modulus-positive c.args.m) c.values.ensures.a_key.size) c.values.ensures.values)
+    c.times_values.ensures.reduced.size
 
-pub hidden_coefficient-requires-clause-reduced : goal.hidden_coefficient-requires-clause-reduced
-hidden_coefficient-requires-clause-reduced c =
+pub masked_error-requires : goal.masked_error-requires
+masked_error-requires c =
     let within : c.loop-i.i < length c.loop-i.out = omega arith in
     let old : get_or c.loop-i.out c.loop-i.i 0 ≡ product_at (modulus_of c.args.m) 4096 c.args.mask.now (residues_of (modulus_of c.args.m) c.args.key.now) c.loop-i.i = c.loop-i.invariant.rest c.loop-i.i (omega arith) within in
-    let positive : 0 < modulus_of c.args.m = modulus-positive c.args.m in
-    subst (λ (x : ℕ). x < modulus_of c.args.m) (sym old) (product_at-below (modulus_of c.args.m) 4096 c.args.mask.now (residues_of (modulus_of c.args.m) c.args.key.now) c.loop-i.i positive)
+    subst (λ (x : ℕ). x < modulus_of c.args.m) (sym old) (product_at-below (modulus_of c.args.m) 4096 c.args.mask.now (residues_of (modulus_of c.args.m) c.args.key.now) c.loop-i.i (modulus-positive c.args.m))
 
 pub loop-i-preserved : goal.loop-i-preserved
 loop-i-preserved c =
@@ -29,16 +30,18 @@ loop-i-preserved c =
     let m : ℕ = modulus_of c.args.m in
     let error : ℤ = get_or c.args.errors.now c.loop-i.i (pos 0) in
     let fits : FitsSigned w8 error = search rules in
-    IsFilled-more 0 _ _ c.loop-i.out c.loop-i.i c.hidden_coefficient.result within
-    (c.hidden_coefficient.ensures.sum
-    ∙ ap (λ (e : ℤ). (residue_of m e + (m - get_or c.loop-i.out c.loop-i.i 0) + scale * get_or c.args.plain.now c.loop-i.i 0) % m) (to_z-of_z w8 error fits)
-    ∙ ap (λ (p : ℕ). (residue_of m error + (m - p) + scale * get_or c.args.plain.now c.loop-i.i 0) % m) (c.loop-i.invariant.rest c.loop-i.i (omega arith) within))
+    IsFilled-more 0 _ _ c.loop-i.out c.loop-i.i c.masked_error.result within
+    (c.masked_error.ensures.difference
+    ∙ ap (λ (e : ℤ). (residue_of m e + (m - get_or c.loop-i.out c.loop-i.i 0)) % m) (to_z-of_z w8 error fits)
+    ∙ ap (λ (p : ℕ). (residue_of m error + (m - p)) % m) (c.loop-i.invariant.rest c.loop-i.i (omega arith) within))
     c.loop-i.invariant
 
 pub returns-clause-hidden : goal.returns-clause-hidden
-unfolding hidden
 returns-clause-hidden c =
-    let m : ℕ = modulus_of c.args.m in
-    same_as_table 4096
-    (λ k. (residue_of m (get_or c.args.errors.now k (pos 0)) + (m - product_at m 4096 c.args.mask.now (residues_of m c.args.key.now) k) + scale * get_or c.args.plain.now k 0) % m)
-    c.loop-i.out (omega (arith, c.requires.places)) (λ k lt. c.loop-i.invariant.done k (omega (arith, c.requires.plaintext.size)))
+    c.add_scaled_to.ensures.sum
+    ∙ hidden_from (modulus_of c.args.m) c.args.mask.now c.args.key.now (λ k. get_or c.args.errors.now k (pos 0)) c.args.plain.now c.loop-i.out
+    (λ k lt. c.loop-i.invariant.done k (omega (arith, c.requires.as_many)))
+
+pub times_values-requires-clause-second : goal.times_values-requires-clause-second
+times_values-requires-clause-second c =
+    subst (λ (xs : List ℕ). IsPolynomial (modulus_of c.args.m) xs) (sym c.values.ensures.values) (IsPolynomial-values_of c.args.m (residues_of (modulus_of c.args.m) c.args.key.now))

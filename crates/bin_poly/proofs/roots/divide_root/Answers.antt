@@ -1,4 +1,5 @@
 use Rattle.std.proofs.Common.{◌≡◌, ◌+◌, ◌-◌, ◌*◌, ◌%◌, ◌<◌, ◌≤◌, ℕ, List, length, slice_index, refl, subst, ap, sym, ◌∙◌, arith}
+use Rattle.std.proofs.Math.Nat.{mod-add-mod}
 use Rattle.bin_poly.specs.Horner.{horner}
 use Rattle.bin_poly.proofs.Horner.{horner-start, horner-step}
 use Rattle.bin_poly.proofs.Factors.{quotient, quotient-is, quotient-past, quotient-below}
@@ -24,13 +25,13 @@ loop-k-preserved c =
     let within : k - 1 < length out = omega arith in
     let some : 0 < k = omega arith in
     let high : k ≤ n = omega arith in
-    let root : c.from-root.result ≡ a = omega arith in
     let old : slice_index out (k - 1) ≡ f (k - 1) = before.left (k - 1) (omega arith) in
     let shape : k ≡ k - 1 + 1 = omega arith in
     record {
       next =
-          c.mul_add-quotient.ensures.value
-          ∙ ap (λ (u : ℕ). (c.loop-k.quotient * u + slice_index out (k - 1)) % 65537) root
+          c.add-quotient.ensures.value
+          ∙ ap (λ (u : ℕ). (u + slice_index out (k - 1)) % 65537) c.mul_root.ensures.value
+          ∙ mod-add-mod (c.loop-k.quotient * a) 65537 (slice_index out (k - 1))
           ∙ ap (λ (u : ℕ). (c.loop-k.quotient * a + u) % 65537) old
           ∙ horner-step 65537 f (λ i. a) n k c.loop-k.quotient some high before.next;
       done = down_done (quotient a f n) out (k - 1) c.loop-k.quotient within

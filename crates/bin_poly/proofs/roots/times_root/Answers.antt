@@ -1,8 +1,8 @@
-use Rattle.std.proofs.Common.{◌≡◌, ◌+◌, ◌-◌, ◌<◌, ℕ, List, length, slice_index, subst, ap, sym, ◌∙◌, arith}
+use Rattle.std.proofs.Common.{◌≡◌, ◌+◌, ◌<◌, ℕ, List, length, slice_index, subst, ap, sym, ◌∙◌, arith}
 use Rattle.bin_poly.specs.Roots.{times_root_coefficient}
 use Rattle.bin_poly.proofs.Factors.{product-written, product-whole, product-below}
 use Rattle.psi_residue.proofs.Filling.{up_done, up_left}
-use Rattle.bin_poly.proofs.Products.{root-multiplied, all_below}
+use Rattle.bin_poly.proofs.Products.{root-multiplied, all_below, coefficient_below}
 use Rattle.bin_poly.proofs.roots.times_root.Goals as goal
 
 pub loop-k-preserved : goal.loop-k-preserved
@@ -14,12 +14,12 @@ loop-k-preserved c =
     let before = c.loop-k.invariant in
     let within : k < length out = omega arith in
     let here = before.left k (omega arith) in
-    let constant : 65537 - c.from-constant.result ≡ 65537 - c.args.root = omega arith in
     record {
-      done = up_done (times_root_coefficient a f) out k c.mul_add.result within
-          (product-written a (65537 - c.from-constant.result) (slice_index out k) c.loop-k.low k c.mul_add.result f constant here before.first before.low c.mul_add.ensures.value)
+      done = up_done (times_root_coefficient a f) out k c.sub.result within
+          (product-written a c.mul_root.result (slice_index out k) c.loop-k.low k c.sub.result f (omega arith) here before.first before.low c.mul_root.ensures.value c.sub.ensures.value)
           before.done;
-      left = up_left f out k c.mul_add.result before.left;
+      left = up_left f out k c.sub.result before.left;
+      below = subst (λ (u : ℕ). u < 65537) (sym here) (coefficient_below c.args.poly.now c.requires.coefficients_below k);
       first = λ e. absurd (omega (arith, e));
       low = λ i e. let same : k ≡ i = omega (arith, e) in here ∙ ap f same;
     }

@@ -1,4 +1,5 @@
-use Rattle.std.proofs.Common.{◌≡◌, ◌-◌, ◌%◌, length, slice_index, ◌∙◌, arith}
+use Rattle.std.proofs.Common.{◌≡◌, ℕ, ◌+◌, ◌-◌, ◌*◌, ◌%◌, length, slice_index, ap, ◌∙◌, arith}
+use Rattle.std.proofs.Math.Nat.{mod-add-mod}
 use Rattle.bin_poly.specs.Horner.{horner}
 use Rattle.bin_poly.proofs.Horner.{horner-start, horner-step}
 use Rattle.bin_poly.proofs.Products.{value-done}
@@ -9,7 +10,9 @@ loop-k-init c = horner-start 65537 (slice_index c.args.coeffs.now) (λ i. c.args
 
 pub loop-k-preserved : goal.loop-k-preserved
 loop-k-preserved c =
-    c.mul_add-value.ensures.value
+    c.add-value.ensures.value
+    ∙ ap (λ (u : ℕ). (u + slice_index c.args.coeffs.now (c.loop-k.k - 1)) % 65537) c.mul.ensures.value
+    ∙ mod-add-mod (c.loop-k.value * c.args.x) 65537 (slice_index c.args.coeffs.now (c.loop-k.k - 1))
     ∙ horner-step 65537 (slice_index c.args.coeffs.now) (λ i. c.args.x) (length c.args.coeffs.now) c.loop-k.k c.loop-k.value (omega arith) (omega arith) c.loop-k.invariant
 
 pub returns-clause-value : goal.returns-clause-value

@@ -10,7 +10,7 @@ use Rattle.cuckoo_place.proofs.first.first_places.Goals.{After-list}
 
 -- the list is the item's set
 same_list : (c : After-list) → c.list.result.now ≡ positions_at c.args.sets.now c.loop-item.item
-same_list c = c.list.ensures ∙ get_or_read c.args.sets.now c.loop-item.item c.index-sets-item.result (omega arith) c.index-sets-item.is []
+same_list c = c.list.ensures.listed ∙ get_or_read c.args.sets.now c.loop-item.item c.index-sets-item.result (omega arith) c.index-sets-item.is []
 
 pub place_of-place-requires-clause-below : goal.place_of-place-requires-clause-below
 place_of-place-requires-clause-below c =

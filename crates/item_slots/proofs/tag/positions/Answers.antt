@@ -1,7 +1,7 @@
 use Rattle.std.proofs.Common.{◌≡◌, ◌≤◌, ◌<◌, ◌*◌, ℕ, List, [], ◌∷◌, ◌∙◌, ap, sym, subst, length}
 use Rattle.std.specs.List.{All}
 use Rattle.item_slots.specs.Tags.{position_at, positions_of, rising}
-use Rattle.item_slots.specs.PositionLaws.{positions-below, length-positions}
+use Rattle.item_slots.proofs.PositionLaws.{positions-below, length-positions}
 use Rattle.item_slots.proofs.tag.positions.Goals as goal
 
 pub returns : goal.returns

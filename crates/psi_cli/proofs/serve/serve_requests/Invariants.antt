@@ -1,6 +1,6 @@
 use Rattle.std.proofs.Common.{◌≡◌, ◌≤◌, ◌+◌, length}
 use Rattle.std.specs.List.{All}
-use Rattle.std.specs.Iter.{into_iter_items}
+use Rattle.std.specs.Vec.Iter.{into_iter_items}
 use Rattle.noise_ledger.specs.Verdicts.{parameters_of}
 use Rattle.sender_core.specs.Kept.{version_of}
 use Rattle.psi_cli.specs.Inputs.{IsServable}

@@ -1,29 +1,49 @@
-use Rattle.std.proofs.Common.{◌≡◌, ◌/◌, ◌++◌, ◌∷◌, [], ℕ, List, get_or, ap, sym, ◌∙◌, arith, append_assoc, refl}
-use Rattle.std.proofs.lemmas.List.{append-nil}
+use Rattle.std.proofs.Common.{◌≡◌, ◌+◌, ◌/◌, ◌%◌, ◌++◌, ◌∷◌, [], ℕ, List, ◌-◌, length, drop, get_or, take, ap, sym, ◌∙◌, arith, append_assoc}
+use Rattle.std.specs.List.{sum}
+use Rattle.std.proofs.lemmas.List.{append-nil, get_or_default}
+use Rattle.noise_ledger.specs.Verdicts.{parameters_of}
+use Rattle.query_codec.proofs.QueryBodies.{all_behind}
 use Rattle.psi_receiver.specs.declared.found.Found.{Found}
-use Rattle.psi_receiver.specs.Openings.{Reply, opened_at, opens_in}
-use Rattle.psi_receiver.proofs.Steps.{opened_below, opened_below-none, opened_below-yes, opened_below-no, opened_below-all, opens-told, no-opened_label}
+use Rattle.psi_receiver.specs.Openings.{Reply, opened_at, opens_in, opened_label}
+use Rattle.psi_receiver.proofs.Opened.{bundle-last, planes-within, opens-told, label-told}
+use Rattle.psi_receiver.proofs.Steps.{opened_below, opened_below-none, opened_below-yes, opened_below-no, opened_below-all}
 use Rattle.psi_receiver.proofs.opening.open_item.Goals as goal
-use Rattle.psi_receiver.proofs.opening.open_item.Goals.{then-opens+in_ok-push, else-opens}
+use Rattle.psi_receiver.proofs.opening.open_item.Goals.{then-opens+in_ok-label+in_ok-push, else-opens}
 
 pub loop-bundle-init : goal.loop-bundle-init
 loop-bundle-init c =
     sym (append-nil c.args.found.now.items)
-    ∙ ap (λ (xs : List Found). c.args.found.now.items ++ xs) (sym (opened_below-none (record { key = c.args.key.now; units = 0; counts = c.args.counts.now; ciphertexts = c.args.cts.now }) c.args.x.now))
+    ∙ ap (λ (xs : List Found). c.args.found.now.items ++ xs)
+    (sym (opened_below-none (record { parameters = parameters_of c.args.params.now; counts = c.args.counts.now; planes = c.args.planes.now }) c.args.x.now))
+
+pub planes_of_bundle-own-requires : goal.planes_of_bundle-own-requires
+planes_of_bundle-own-requires c =
+    let number : c.bundles_before-first.result + c.from.result ≡ sum (take (c.args.x.now.position / 819) c.args.counts.now) + c.loop-bundle.bundle =
+    λ i. (c.bundles_before-first.ensures.sum ∙ ap (λ (q : ℕ). sum (take (q / 819) c.args.counts.now)) c.from-row.ensures) i + c.from.ensures i in
+    let count : get_or c.args.counts.now (c.from-row.result / 819) 0 ≡ get_or c.args.counts.now (c.args.x.now.position / 819) 0 = ap (λ (q : ℕ). get_or c.args.counts.now (q / 819) 0) c.from-row.ensures in
+    let last = bundle-last c.args.counts.now c.args.x.now.position c.loop-bundle.bundle (c.bundles_before-first.result + c.from.result) c.requires.within (omega (arith, count)) number in
+    record { within = planes-within c.args.counts.now c.args.planes.now (c.bundles_before-first.result + c.from.result) c.args.params.now.units last c.requires.whole }
 
 pub loop-bundle-preserved : goal.loop-bundle-preserved
 loop-bundle-preserved c =
-    let reply : Reply = record { key = c.args.key.now; units = 0; counts = c.args.counts.now; ciphertexts = c.args.cts.now } in
+    let reply : Reply = record { parameters = parameters_of c.args.params.now; counts = c.args.counts.now; planes = c.args.planes.now } in
+    let number : c.bundles_before-first.result + c.from.result ≡ sum (take (c.args.x.now.position / 819) c.args.counts.now) + c.loop-bundle.bundle =
+    λ i. (c.bundles_before-first.ensures.sum ∙ ap (λ (q : ℕ). sum (take (q / 819) c.args.counts.now)) c.from-row.ensures) i + c.from.ensures i in
+    let own = c.planes_of_bundle-own.result.now in
+    let bin_is = ap (λ (q : ℕ). q % 819) c.from-bin.ensures in
+    let root = c.index-own-0.is ∙ get_or_default own 0 c.index-own-0.result [] (omega (arith, c.planes_of_bundle-own.ensures.number)) in
     let told : opens_in reply c.args.x.now.position c.loop-bundle.bundle ≡ c.opens.result =
-    opens-told c.args.key.now c.args.counts.now c.args.cts.now c.args.x.now.position c.loop-bundle.bundle c.from-row.result c.from-in-loop-bundle.result c.from.result c.bundles_before-first.result
-    c.index-cts-first.result c.opens.result c.from-row.ensures c.from-in-loop-bundle.ensures c.from.ensures c.bundles_before-first.ensures.sum c.index-cts-first.is c.requires.within c.requires.whole
-    c.loop-bundle-test.true c.opens.ensures in
+    opens-told reply c.args.x.now.position c.loop-bundle.bundle own c.index-own-0.result (c.bundles_before-first.result + c.from.result) (c.from-bin.result % 819) c.opens.result
+    number c.planes_of_bundle-own.ensures.planes root bin_is c.opens.ensures in
     elim c.if-opens.branch [
-      | then-opens+in_ok-push w ↦
+      | then-opens+in_ok-label+in_ok-push w ↦
+          let units = take (length own - 1) (drop 1 own) in
+          let label_is : w.in_ok-label.field-0 ≡ opened_label reply c.args.x.now.position c.loop-bundle.bundle =
+          label-told reply c.args.x.now.position c.loop-bundle.bundle own units (c.bundles_before-first.result + c.from.result) (c.from-bin.result % 819) w.in_ok-label.field-0
+          number c.planes_of_bundle-own.ensures.planes c.planes_of_bundle-own.ensures.number (all_behind 1 own) bin_is w.in_ok-label.ensures in
           ap (λ v. v.items) w.found-is
           ∙ w.in_ok-push.ensures.items
-          ∙ (λ i. c.loop-bundle.invariant i
-          ++ record { item = c.args.x.now.item; bundle = c.loop-bundle.bundle; label = (w.no_label.ensures ∙ sym (no-opened_label reply c.args.x.now.position c.loop-bundle.bundle refl)) i } ∷ [])
+          ∙ (λ i. c.loop-bundle.invariant i ++ record { item = c.args.x.now.item; bundle = c.loop-bundle.bundle; label = label_is i } ∷ [])
           ∙ append_assoc c.args.found.now.items (opened_below reply c.args.x.now c.loop-bundle.bundle) (opened_at reply c.args.x.now c.loop-bundle.bundle ∷ [])
           ∙ ap (λ (xs : List Found). c.args.found.now.items ++ xs) (sym (opened_below-yes reply c.args.x.now c.loop-bundle.bundle (told ∙ w.if-opens.true)))
       | else-opens w ↦
@@ -34,7 +54,7 @@ loop-bundle-preserved c =
 
 pub returns : goal.returns
 returns c =
-    let reply : Reply = record { key = c.args.key.now; units = 0; counts = c.args.counts.now; ciphertexts = c.args.cts.now } in
+    let reply : Reply = record { parameters = parameters_of c.args.params.now; counts = c.args.counts.now; planes = c.args.planes.now } in
     let count : get_or c.args.counts.now (c.from-row.result / 819) 0 ≡ get_or c.args.counts.now (c.args.x.now.position / 819) 0 = ap (λ (q : ℕ). get_or c.args.counts.now (q / 819) 0) c.from-row.ensures in
     let all : c.loop-bundle.bundle ≡ get_or c.args.counts.now (c.args.x.now.position / 819) 0 = omega (arith, count) in
     c.loop-bundle.invariant

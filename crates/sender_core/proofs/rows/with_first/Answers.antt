@@ -1,7 +1,7 @@
 use Rattle.std.proofs.Common.{List, IsTrue, sym, subst}
 use Rattle.psi_bundle.specs.declared.member.Member.{Member}
 use Rattle.psi_bundle.specs.Bins.{accepts, bin_at}
-use Rattle.sender_core.proofs.FirstFit.{fresh-accepts}
+use Rattle.psi_bundle.proofs.FirstFit.{fresh-accepts}
 use Rattle.sender_core.proofs.rows.with_first.Goals as goal
 
 pub add-requires-clause-accepted : goal.add-requires-clause-accepted

@@ -1,4 +1,4 @@
-use Rattle.std.proofs.Common.{◌∙◌, arith, rules}
+use Rattle.std.proofs.Common.{◌∙◌, arith}
 use Rattle.row_block.proofs.Layouts.{held_is, row_is, times_below}
 use Rattle.row_block.proofs.block.RowBlock.row.Goals as goal
 

@@ -1,10 +1,10 @@
-use Rattle.std.proofs.Common.{◌+◌, ◌∷◌, [], ◌++◌, Some, set, ap, refl, ◌∙◌, List, arith}
-use Rattle.row_block.specs.Rows.{Block, cleared}
+use Rattle.std.proofs.Common.{◌+◌, ◌∷◌, [], ◌++◌, Some, set, ap, refl, ◌∙◌, List, length, arith}
+use Rattle.row_block.specs.Rows.{Block}
 use Rattle.row_block.proofs.Stacks.{gives, Given}
 use Rattle.row_block.proofs.shelf.Shelf.give.Goals as goal
 
 given : (c : goal.After-self-1) → Given c.self.inside c.clear.new.self (record { places = set c.self.inside.places c.self.inside.count (Some c.clear.new.self); count = c.self.inside.count + 1 })
-given c = let laid = c.self.invariant in let room = laid.shelf.room in gives c.self.inside c.clear.new.self laid (omega (arith, c.if-self-eq8.false, laid.count, room)) (ap (λ (z : Block). z.held) c.clear.ensures.cleared)
+given c = gives c.self.inside c.clear.new.self c.self.invariant (omega (arith, c.is_full.ensures.room c.if-is_full.false, ap length c.self.view_is)) (ap (λ (z : Block). z.held) c.clear.ensures.cleared)
 
 pub invariant_of-self : goal.invariant_of-self
 invariant_of-self c = (given c).stacked

@@ -1,7 +1,4 @@
-use Rattle.std.proofs.Common.{◌≡◌, ◌-◌, ◌∷◌, [], ◌++◌, Option, None, Some, set, ap, sym, subst, refl, ◌∙◌, List, arith}
-use Rattle.std.specs.Option.{MatchOption, IfSome}
-use Rattle.row_block.specs.Rows.{Block}
-use Rattle.row_block.specs.Places.{kept_in}
+use Rattle.std.proofs.Common.{◌-◌, set, sym, ◌∙◌, arith}
 use Rattle.row_block.proofs.Stacks.{takes, Taken}
 use Rattle.row_block.proofs.shelf.Shelf.take.Goals as goal
 
@@ -10,6 +7,9 @@ taken c = takes c.self.inside c.self.invariant (c.self.inside.count - 1) (omega 
 
 pub invariant_of-self : goal.invariant_of-self
 invariant_of-self c = (taken c).stacked
+
+pub returns-clause-none : goal.returns-clause-none
+returns-clause-none c = rw (taken c).is tt
 
 pub returns-clause-taken : goal.returns-clause-taken
 returns-clause-taken c = let t = taken c in rw t.is (sym c.self.view_is ∙ t.kept)

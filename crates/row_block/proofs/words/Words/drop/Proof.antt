@@ -1,9 +1,9 @@
 -- The drop gives the whole block back by the handle, which lies in a field.
-use Rattle.std.proofs.Common.{◌≡◌, ℕ, ◌+◌, ◌-◌, ◌*◌, ◌^◌, ◌<◌, ◌≤◌, List, [], ◌∷◌, ◌++◌, length, refl, sym, ap, subst, ◌∙◌, lit<, w64, arith}
+use Rattle.std.proofs.Common.{◌≡◌, ℕ, ◌+◌, ◌-◌, ◌*◌, ◌^◌, ◌<◌, List, [], ◌∷◌, ◌++◌, length, refl, sym, ap, subst, ◌∙◌, lit<, w64, arith}
 use Rattle.std.proofs.raw_atomic.Walks.{proved_at}
 use seplogic.Ra.Ura.{Ura}
 use base.Fraction.{full_share}
-use base.Fml.{Lft, Share, Incl-trans, ftrue, fat, froom, flft}
+use base.Fml.{Lft, ftrue, froom, flft}
 use base.Logic.{SProp, ent}
 use lib.Dec.{T}
 use mir.Syntax.{Ty, Tys, tnil, tcons, ty_array, ty_int, ty_ptr, ty_unit}
@@ -15,8 +15,8 @@ use prog.RawLaws.{size-raw, align-raw}
 use prog.Routine.{Routine}
 use prog.Wp.{Env, WpFn, Tables}
 use sound.WpLaws.{fm_of}
-use types.Logic.{Logic, sem}
-use types.Kit.{⋆, ‵, raw, ◌⊛◌, prop, later, given, await, learn, at_ret, ◌$◌, ◌∵◌, !, qed, by, move, keep, drop, use1, use2, use3, split, join, group, rewrite, regoal, fsplit, fjoin, feq_i, suffices, done}
+use types.Logic.{Logic}
+use types.Kit.{⋆, ‵, raw, ◌⊛◌, prop, later, given, await, learn, at_ret, ◌$◌, ◌∵◌, !, qed, by, move, keep, drop, use1, use2, use3, split, join, regoal, fsplit, fjoin, feq_i, suffices, done}
 use types.Part.{whole, sub}
 use types.Run.{stop, fld, from, lit, bin, addr, unit_lit, of_opd, and_then, no_more, first, blocks, exec, returns, enter}
 use types.ByLocal.{alloc_all, pass_all, free_all, look_at, get, get_in, sets, lands_last, take_at, give_at, env}
@@ -26,7 +26,6 @@ use contract.Monad.{Fun}
 use contract.Running.{tables, tables_of}
 use denote.Array.{Array}
 use denote.Builtin.{u64}
-use denote.Exit.{yes}
 use denote.Memory.{part_at}
 use denote.Param.{layout}
 use denote.RattleType.{owns}

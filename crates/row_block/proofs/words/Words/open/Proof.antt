@@ -1,5 +1,5 @@
 -- `open` lends the handle to the heap, and owns the block that it answers: no word of it is written.
-use Rattle.std.proofs.Common.{◌≡◌, ℕ, ◌+◌, ◌-◌, ◌*◌, ◌^◌, ◌<◌, ◌≤◌, Bool, true, false, List, [], ◌∷◌, length, IfOk, Ok, Err, refl, ap, ◌∙◌, lit<, w64, arith}
+use Rattle.std.proofs.Common.{◌≡◌, ℕ, ◌+◌, ◌-◌, ◌*◌, ◌^◌, ◌<◌, ◌≤◌, true, false, [], ◌∷◌, IfOk, Ok, Err, refl, ap, ◌∙◌, lit<, w64, arith}
 use Rattle.std.proofs.raw_atomic.Walks.{proved}
 use seplogic.Ra.Ura.{Ura}
 use base.Fraction.{full_share}
@@ -15,7 +15,7 @@ use prog.Routine.{Routine}
 use prog.Wp.{Env, Tables, Wp, WpFn, after_seq, at_return}
 use sound.WpLaws.{fm_of}
 use types.Logic.{Logic, sem}
-use types.Kit.{Item, ⋆, ‵, raw, ◌⊛◌, some, later, await, pick, at_ret, any_q, Post as After, ◌$◌, ◌∵◌, !, qed, by, move, keep, drop, use0, use1, use2, split, split3, join, rewrite, fsplit, fjoin, suffices, frame, done}
+use types.Kit.{⋆, ‵, raw, ◌⊛◌, some, later, await, pick, at_ret, any_q, Post as After, ◌$◌, ◌∵◌, !, qed, by, move, keep, drop, use0, use1, use2, split, split3, join, rewrite, fsplit, fjoin, suffices, done}
 use types.Match.{live, vrt, in_variant}
 use types.Part.{whole, agg}
 use types.Run.{stop, fld, from, lit, bin, addr, of_opd, and_then, no_more, first, exec, returns, enter, switches_on}

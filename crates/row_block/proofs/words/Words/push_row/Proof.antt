@@ -1,12 +1,12 @@
 -- `push_row` keeps the words below its place, and writes the row's words behind them, one by one.
-use Rattle.std.proofs.Common.{◌≡◌, ℕ, zero, suc, ◌+◌, ◌-◌, ◌*◌, ◌^◌, ◌<◌, ◌≤◌, List, [], ◌∷◌, ◌++◌, length, get_or, set, take, length-take, length-append, append_assoc, append-nil, refl, sym, ap, subst, ◌∙◌, lit<, ltb→lt, nltb→le, w64, MutBor, arith}
+use Rattle.std.proofs.Common.{◌≡◌, ℕ, zero, suc, ◌+◌, ◌-◌, ◌*◌, ◌^◌, ◌<◌, ◌≤◌, List, [], ◌∷◌, ◌++◌, length, get_or, set, take, length-take, length-append, append_assoc, append-nil, refl, sym, ap, ◌∙◌, lit<, ltb→lt, nltb→le, w64, MutBor, arith}
 use Rattle.std.proofs.raw_atomic.Walks.{proved}
 use Rattle.std.proofs.ptr.Rows.{one_more, take_snoc, take_all}
 use mathlib.Core.WellFounded.InvImage
 use lib.WfN.{lt-wf_rel}
 use seplogic.Ra.Ura.{Ura}
 use base.Fraction.{full_share}
-use base.Fml.{Lft, GName, Share, Fml, ftrue, fat, froom, fhide, flft, fobs, fauth, fbor, fobor}
+use base.Fml.{Lft, GName, Share, ftrue, fat, froom, fhide, flft, fobs, fauth, fbor, fobor}
 use base.Logic.{SProp, ent}
 use mir.Raw.{raw as bare}
 use mir.Syntax.{Body, named, ty_int, ty_array}
@@ -14,7 +14,7 @@ use mir.Val.{Val, vint, vptr, vunit}
 use prog.Memory.{Memory}
 use prog.Routine.{Routine}
 use prog.Wp.{Env, Out, Wp, WpFn, Tables, at_return, after_seq, after_block, after_turn}
-use types.Logic.{Logic, sem}
+use types.Logic.{Logic}
 use types.Kit.{Item, Sq, any_q, runs, ⋆, ‵, raw, ◌⊛◌, at_ret, ◌$◌, ◌∵◌, !, qed, by, move, keep, drop, use1, use2, split, split3, join, rewrite, fsplit, fsplit3, fjoin, fjoin3, feq_i, suffices, frame, done}
 use types.Part.{whole, sub, look_in}
 use types.Run.{stop, fld, look, load, init, lit, bin, unit_lit, of_opd, assigns, first, blocks, skips, jumps, branches, exec, returns, enter, loops, again, Below, well_typed}
@@ -25,7 +25,7 @@ use contract.Running.{tables, tables_of}
 use denote.Builtin.{u64, usize, SliceRefOf}
 use denote.Copied.{uint_Copied}
 use denote.Exit.{yes}
-use denote.Index.{place_is, others, takes, puts, row, looks_slice, shuts_slice}
+use denote.Index.{place, place_is, others, takes, puts, row, looks_slice, shuts_slice}
 use denote.Memory.{cell_at, mem, part_at, shares}
 use denote.Opens.{Shut}
 use denote.Plain.{uint_vals, uint_Tells, uint_in, uint_out}
@@ -62,7 +62,7 @@ module _ {M : Type 1} {𝓤 : Ura M} (𝓛 : Logic 𝓤) where
       → ent 𝓤 (⋆ 𝓛 (‵ (row u64 p ys b o) ∷ [])) (⋆ 𝓛 (‵ (fat p τ b (i * 8 + o) (vint w64 (get_or ys i 0))) ∷ ‵ (others (shares u64) p ys i b o) ∷ []))
   row_out p ys i b o inside =
       qed 𝓛 (‵ (row u64 p ys b o) ∷ []) ∵
-      use1 𝓛 (‵ (part_at u64 p (get_or ys i 0) b (denote.Index.place 8 o i)) ⊛ ‵ (others (shares u64) p ys i b o)) (takes (shares u64) p 𝓛 ys i 0 b o inside) $ split ! $
+      use1 𝓛 (‵ (part_at u64 p (get_or ys i 0) b (place 8 o i)) ⊛ ‵ (others (shares u64) p ys i b o)) (takes (shares u64) p 𝓛 ys i 0 b o inside) $ split ! $
       rewrite ! 0 (λ (k : ℕ). ‵ (part_at u64 p (get_or ys i 0) b k)) (place_is 8 o i) refl $
       use1 𝓛 (‵ (fat p τ b (i * 8 + o) (vint w64 (get_or ys i 0)))) (uint_out 𝓛 p w64 (get_or ys i 0) b (i * 8 + o)) $ done !
 

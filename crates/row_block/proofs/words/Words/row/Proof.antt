@@ -25,7 +25,7 @@ use denote.RattleType.{RattleType, RowLaws, owns}
 use denote.RawPtr.{RawPtr, block_of, count_of, InBlock, ptr_row_laws}
 use denote.Ref.{Bor, ShrRef, shr_vals, shr_Tells}
 use denote.Signature.{plain}
-use denote.Slice.{ShrSlice, slice_val, elements_shared}
+use denote.Slice.{slice_val, elements_shared}
 use denote.Steps.{heard, nothing}
 use denote.Struct.Lending.{in_block_says, lent_out}
 use denote.Struct.Owning.{shape, to}
@@ -36,7 +36,6 @@ use Rattle.std.proofs.alloc.Global.TheLaws as heap_laws
 use Rattle.std.proofs.VecSteps.Shapes.{after}
 use Rattle.std.proofs.Words.{pointer_in, pointer_out}
 use Rattle.row_block.proofs.Memory.{part_seen}
-use Rattle.row_block.proofs.words.Words.TheLaws as laws
 use Rattle.row_block.specs.contracts.words.Words as W
 use Rattle.row_block.specs.contracts.words.Words.row as F
 use Rattle.row_block.proofs.words.Words.row.Statement.{statement}

@@ -7,5 +7,5 @@ use Rattle.sender_core.proofs.state.State.replace.Goals as goal
 pub returns-clause-stepped : goal.returns-clause-stepped
 returns-clause-stepped g c =
     replaced-by (contents_of c.args.self.now) (contents_of c.enter.new.self) c.count.result (kept_of_rows c.deref.result.now) (kept_of_rows c.in_ok-rows.rows.items) c.list.result.now c.args.tag
-    c.count.ensures (ap kept_of_rows c.deref.ensures.value) (c.list.ensures ∙ c.positions-places.ensures.listed) c.in_ok-rows.ensures.caches
+    c.count.ensures (ap kept_of_rows c.deref.ensures.value) (c.list.ensures.listed ∙ c.positions-places.ensures.listed) c.in_ok-rows.ensures.caches
     c.args.label c.requires.present c.in_ok-rows.ensures.made c.in_ok-enter.ensures.entered

@@ -1,0 +1,45 @@
+//! Sums and products modulo the plaintext modulus, 65537 = 2^16 + 1.
+ghost use Rattle.std.specs.Prelude.{◌≡◌, ◌+◌, ◌-◌, ◌*◌, ◌%◌, ◌<◌};
+ghost use Rattle.psi_residue.specs.Numbers.{plain_modulus};
+
+// The plaintext modulus.
+const MODULUS: u32 = 65537;
+
+// `a` and `b`.
+pub fn add(a: u32, b: u32) -> u32
+    requires a_below { a < plain_modulus }
+    requires b_below { b < plain_modulus }
+    ensures value { result ≡ (a + b) % plain_modulus }
+{
+    let sum = a + b;
+    if sum < MODULUS { sum } else { sum - MODULUS }
+}
+
+// `a` less `b`. A difference below 0 wraps to one of the greatest numbers, and back where the modulus is added.
+pub fn sub(a: u32, b: u32) -> u32
+    requires a_below { a < plain_modulus }
+    requires b_below { b < plain_modulus }
+    ensures value { result ≡ (a + (plain_modulus - b)) % plain_modulus }
+{
+    let difference = a.wrapping_sub(b);
+    difference.min(difference.wrapping_add(MODULUS))
+}
+
+// `a` times `b`. As 2^16 is -1, what stands from bit 16 on is taken off what stands below.
+pub fn mul(a: u32, b: u32) -> u32
+    requires a_below { a < plain_modulus }
+    requires b_below { b < plain_modulus }
+    ensures value { result ≡ a * b % plain_modulus }
+{
+    let product = u64::from(a) * u64::from(b);
+    sub((product & 0xffff) as u32, (product >> 16) as u32)
+}
+
+// `a` times a root, whose product has 32 bits at most.
+pub fn mul_root(a: u32, root: u16) -> u32
+    requires { a < plain_modulus }
+    ensures value { result ≡ a * root % plain_modulus }
+{
+    let product = a * u32::from(root);
+    sub(product & 0xffff, product >> 16)
+}

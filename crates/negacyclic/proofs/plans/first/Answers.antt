@@ -1,0 +1,17 @@
+use Rattle.std.proofs.Common.{refl, arith}
+use Rattle.psi_residue.specs.Numbers.{degree_inverse, degree_inverse_of}
+use Rattle.negacyclic.proofs.PowerTests.{first-factors, first-powers}
+use Rattle.negacyclic.proofs.plans.first.Goals as goal
+
+pub returns : goal.returns
+unfolding degree_inverse_of degree_inverse
+returns c = record {
+  modulus = refl;
+  small = omega arith;
+  fold = refl;
+  narrow = omega arith;
+  one = (record { reduced = omega arith; scaled = refl }, refl);
+  scaled = (record { reduced = omega arith; scaled = refl }, refl);
+  factors = first-factors;
+  powers = first-powers;
+}

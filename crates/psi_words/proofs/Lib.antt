@@ -1,0 +1,5 @@
+mod Behind
+mod Digits
+mod Elements
+mod Lines
+mod Seeds

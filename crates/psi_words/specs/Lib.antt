@@ -1,0 +1,4 @@
+pub mod Forms
+pub mod Grammar
+pub mod Leads
+pub mod Texts
