@@ -1,1 +1,3 @@
 pub mod FirstFit
+pub mod RootChanges
+pub mod BinChanges

@@ -1,6 +1,6 @@
 pub mod Labels
 pub mod Bins
-pub mod Shares
+pub mod KeptPolynomials
 pub mod Versions
 pub mod Steps
 pub mod Histories

@@ -1,35 +1,36 @@
 //! Bundles: 819 bins of members.
 //!
-//! Bundles share their bins: a change of one bin copies that bin's members and the handles of the others.
-ghost use Rattle.std.specs.Prelude.{◌≡◌, ◌<◌, ◌≤◌, IsTrue, List, ℕ, length, take, drop, ◌++◌, [], ◌∷◌, map, IfOk, slice_set};
+//! Bundles share their bins: a change of one bin copies that bin and one page of handles.
+ghost use Rattle.std.specs.Prelude.{◌≡◌, ◌<◌, ◌≤◌, IsTrue, List, ℕ, length, take, drop, ◌++◌, [], ◌∷◌, map, IfOk, slice_index, slice_set, ◌+◌};
 ghost use Rattle.std.specs.List.{list_any};
-ghost use Rattle.psi_bundle.specs.Shares.{shared_bins};
+ghost use Rattle.psi_residue.specs.RootPolynomials.{root_coefficient};
 ghost use Rattle.psi_bundle.specs.Bins.{accepts, holds, shares_slot, bin_at, empty_bins, relabelled, roots_of, without};
 ghost use Rattle.item_slots.specs.Tags.{slot_value};
 
+use crate::bin::Bin;
 use crate::label::Label;
 use crate::member::Member;
 use item_slots::{Tag, slots};
+use page_list::PageList;
 use std::alloc::{AllocError, Global};
 use std::marker::Model;
 use std::sync::Arc;
 
-/// 819 bins of members.
+/// 819 bins of members, each with the root polynomials of its five parts. Contracts see the members.
 #[derive(Drop)]
 pub struct Bundle {
-    bins: Vec<Arc<Vec<Member>>>,
+    bins: PageList<Bin>,
 }
 
 impl Model for Bundle {
     ghost use Rattle.std.specs.Prelude.{◌≡◌, List, length};
     ghost use Rattle.psi_bundle.specs.declared.member.Member.{Member};
-    ghost use Rattle.psi_bundle.specs.Shares.{shared_bins};
 
     ghost Value = { List (List Member) };
 
-    ghost view = { λ b. shared_bins b.bins.items };
+    ghost view = { λ b. b.bins };
 
-    ghost invariant = { λ b. length b.bins.items ≡ 819 };
+    ghost invariant = { λ b. length b.bins ≡ 819 };
 }
 
 impl Bundle {
@@ -38,11 +39,8 @@ impl Bundle {
     pub fn empty(alloc: Global) -> Result<Bundle, AllocError>
         ensures { IfOk result (λ bundle. bundle ≡ empty_bins) }
     {
-        let none = Arc::new(alloc, Vec::new(alloc))?;
-        let mut bins = Vec::with_capacity(alloc, 819)?;
-        for _made in 0..819usize {
-            bins.push(none.clone()?)?;
-        }
+        let none = Arc::new(alloc, Bin::empty(alloc)?)?;
+        let bins = PageList::filled(alloc, 819, none)?;
         Ok(Bundle { bins })
     }
 
@@ -59,7 +57,7 @@ impl Bundle {
         requires { bin < 819 }
         ensures { result.now ≡ bin_at self.now bin }
     {
-        &self.bins[bin as usize]
+        self.bin(bin).members()
     }
 
     /// Whether the bin accepts the tag: it has fewer members than the capacity, and none of them shares a
@@ -91,7 +89,7 @@ impl Bundle {
         requires accepted { IsTrue (accepts capacity (bin_at self.now bin) member.tag) }
         ensures { IfOk result (λ bundle. bundle ≡ slice_set self.now bin (bin_at self.now bin ++ member ∷ [])) }
     {
-        self.with_bin(alloc, bin, appended(alloc, self.members(bin), member)?)
+        self.with_bin(alloc, bin, self.bin(bin).add(alloc, member)?)
     }
 
     /// The bundle with another label for the tag, which the bin holds.
@@ -106,11 +104,7 @@ impl Bundle {
         requires held { IsTrue (holds (bin_at self.now bin) tag.now) }
         ensures { IfOk result (λ bundle. bundle ≡ slice_set self.now bin (relabelled (bin_at self.now bin) tag.now label)) }
     {
-        self.with_bin(
-            alloc,
-            bin,
-            with_label(alloc, self.members(bin), tag, label)?,
-        )
+        self.with_bin(alloc, bin, self.bin(bin).relabel(alloc, tag, label)?)
     }
 
     /// The bundle without the tag's member in the bin, which holds it. The other members keep their order.
@@ -119,7 +113,7 @@ impl Bundle {
         requires held { IsTrue (holds (bin_at self.now bin) tag.now) }
         ensures { IfOk result (λ bundle. bundle ≡ slice_set self.now bin (without (bin_at self.now bin) tag.now)) }
     {
-        self.with_bin(alloc, bin, others(alloc, self.members(bin), tag)?)
+        self.with_bin(alloc, bin, self.bin(bin).remove(alloc, tag)?)
     }
 
     /// Writes the slot values of one part of the bin's members to the front of `out`, in their order, and
@@ -135,70 +129,38 @@ impl Bundle {
         write_roots(self.members(bin), part, out)
     }
 
-    // The bundle with another content of one bin.
-    fn with_bin(&self, alloc: Global, bin: u16, members: Vec<Member>) -> Result<Bundle, AllocError>
-        requires { bin < 819 }
-        ensures { IfOk result (λ bundle. bundle ≡ slice_set self.now bin members.items) }
+    /// The root polynomial of one part of a bin, modulo 65537: the product of `(x - a)` over the slot values `a` that the
+    /// bin's members have in the part, its coefficients with the constant first. There is one more of them than members.
+    /// `bin` is below 819 and `part` below 5.
+    ///
+    /// Each bin keeps its polynomials: after any list of `add`, `remove` and `relabel` they are those of the members that
+    /// then stand, which is a fact of the type.
+    pub fn poly(&self, bin: u16, part: u8) -> &[u32]
+        requires in_range { bin < 819 }
+        requires a_part { part < 5 }
+        ensures number { length result.now ≡ length (bin_at self.now bin) + 1 }
+        ensures coefficients { (k : ℕ) → slice_index result.now k ≡ root_coefficient (roots_of (bin_at self.now bin) part) k }
     {
-        let mut bins = shared(alloc, &self.bins)?;
-        let changed = Arc::new(alloc, members)?;
-        bins[bin as usize] = changed;
+        self.bin(bin).polynomial(part)
+    }
+
+    // One bin.
+    fn bin(&self, bin: u16) -> &Bin
+        requires { bin < 819 }
+        ensures { result.now ≡ bin_at self.now bin }
+    {
+        self.bins.get(bin as usize)
+    }
+
+    // The bundle with another content of one bin.
+    fn with_bin(&self, alloc: Global, bin: u16, content: Bin) -> Result<Bundle, AllocError>
+        requires { bin < 819 }
+        ensures { IfOk result (λ bundle. bundle ≡ slice_set self.now bin content) }
+    {
+        let changed = Arc::new(alloc, content)?;
+        let bins = self.bins.replace(alloc, bin as usize, changed)?;
         Ok(Bundle { bins })
     }
-}
-
-// Handles of the same bins.
-fn shared(alloc: Global, bins: &[Arc<Vec<Member>>]) -> Result<Vec<Arc<Vec<Member>>>, AllocError>
-    ensures { IfOk result (λ copy. shared_bins copy.items ≡ shared_bins bins.now) }
-{
-    let mut copy = Vec::with_capacity(alloc, bins.len())?;
-    for bin in bins {
-        copy.push(bin.clone()?)?;
-    }
-    Ok(copy)
-}
-
-// The members of a bin, and one more.
-fn appended(alloc: Global, members: &[Member], member: Member) -> Result<Vec<Member>, AllocError>
-    ensures { IfOk result (λ bin. bin.items ≡ members.now ++ member ∷ []) }
-{
-    let mut bin = Vec::from_slice(alloc, members)?;
-    bin.push(member)?;
-    Ok(bin)
-}
-
-// The members of a bin, with another label for the tag.
-#[tactic(auto, unfolding(crate::specs::Bins::relabelled))]
-fn with_label(
-    alloc: Global,
-    members: &[Member],
-    tag: &Tag,
-    label: Label,
-) -> Result<Vec<Member>, AllocError>
-    ensures { IfOk result (λ bin. bin.items ≡ relabelled members.now tag.now label) }
-{
-    members
-        .iter()
-        .map(|m| {
-            if m.tag == *tag {
-                Member { tag: m.tag, label }
-            } else {
-                *m
-            }
-        })
-        .collect(alloc)
-}
-
-// The members of a bin whose tag is another.
-#[tactic(auto, unfolding(crate::specs::Bins::without))]
-fn others(alloc: Global, members: &[Member], tag: &Tag) -> Result<Vec<Member>, AllocError>
-    ensures { IfOk result (λ bin. bin.items ≡ without members.now tag.now) }
-{
-    members
-        .iter()
-        .filter(|m| m.tag != *tag)
-        .map(|m| *m)
-        .collect(alloc)
 }
 
 // Whether two tags have one slot value in common, in the same part.

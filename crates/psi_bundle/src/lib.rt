@@ -5,11 +5,13 @@
 //! step by step.
 #![tactic(auto)]
 
+mod bin;
 mod bundle;
 mod cached;
 mod history;
 mod label;
 mod member;
+mod root_polynomial;
 #[cfg(test)]
 mod tests;
 

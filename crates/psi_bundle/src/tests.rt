@@ -99,3 +99,22 @@ fn a_removal_closes_the_gap(rt: HostRuntime) {
     let cache = NoCache::of(shared);
     assert!(rt; cache.bundle().holds(818, &made_up(3)));
 }
+
+#[test]
+fn a_bin_keeps_its_polynomials(rt: HostRuntime) {
+    let alloc = rt.alloc();
+    let (none, some) = (
+        Label::of(b"").expect(&rt, "short"),
+        Label::of(b"label").expect(&rt, "short"),
+    );
+    let empty = Bundle::empty(alloc).expect(&rt, "memory");
+    assert_eq!(rt; empty.poly(818, 0), [1].as_slice());
+    let one = added(alloc, &empty, made_up(1), none, 2).expect(&rt, "accepted");
+    let two = added(alloc, &one, made_up(2), none, 2).expect(&rt, "accepted");
+    assert_eq!(rt; two.poly(818, 0), [2, 65534, 1].as_slice());
+    let named = renamed(alloc, &two, made_up(1), some).expect(&rt, "held");
+    let left = removed(alloc, &named, made_up(1)).expect(&rt, "held");
+    assert_eq!(rt; left.poly(818, 0), [65535, 1].as_slice());
+    let zero = added(alloc, &empty, made_up(0), none, 1).expect(&rt, "accepted");
+    assert_eq!(rt; zero.poly(818, 0), [0, 1].as_slice());
+}
