@@ -46,18 +46,6 @@ job-more start es rest t h =
     let longer = length-append es rest in
     (h.0, omega (arith, h.1, longer), ap (λ (w : Version). bundle_at w.rows t.row t.index) (version-more start es rest h.0 h.1) ∙ h.2)
 
--- after one step of a book
-module _ {C : Type 0} (old new : Contents C) (c : Call) (answer : Answer) (h : IsStep old new c answer) where
-  pub view-stepped : (v : RowSight C) → IsViewOf (start_of old) old.journal v → IsViewOf (start_of new) new.journal v
-  view-stepped v is =
-      subst (λ (start : Version). IsViewOf start new.journal v) (same-start old new c answer h)
-      (subst (λ (es : List Entry). IsViewOf (start_of old) es v) (sym h.journal) (view-more (start_of old) old.journal (record { call = c; answer = answer } ∷ []) v is))
-
-  pub job-stepped : (t : Job) → IsJobOf (start_of old) old.journal t → IsJobOf (start_of new) new.journal t
-  job-stepped t is =
-      subst (λ (start : Version). IsJobOf start new.journal t) (same-start old new c answer h)
-      (subst (λ (es : List Entry). IsJobOf (start_of old) es t) (sym h.journal) (job-more (start_of old) old.journal (record { call = c; answer = answer } ∷ []) t is))
-
 -- ---- the invariant
 
 module _ {C : Type 0} (contents : C → List (List Member)) (is_under : C → List ℕ → Type 0) (start : Version) (begun : IsStart start) where
