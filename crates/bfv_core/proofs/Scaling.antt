@@ -1,5 +1,5 @@
 -- Plaintexts times the scale, added place by place, and the opening by residues.
-use Rattle.std.proofs.Common.{◌≡◌, ℕ, ◌+◌, ◌-◌, ◌*◌, ◌/◌, ◌%◌, ◌<◌, ◌≤◌, List, length, map, get_or, replicate, refl, ap, ◌∙◌, sym, subst, arith, ℤ, pos, negsuc, suc}
+use Rattle.std.proofs.Common.{◌≡◌, ℕ, ◌+◌, ◌-◌, ◌*◌, ◌/◌, ◌%◌, ◌<◌, ◌≤◌, List, length, get_or, replicate, refl, ap, ◌∙◌, sym, arith, ℤ, pos, negsuc, suc}
 use Rattle.std.proofs.lemmas.List.{get_or-replicate, get_or-map, length-map}
 use Rattle.psi_residue.specs.declared.numbers.Modulus.{Modulus}
 use Rattle.psi_residue.specs.declared.numbers.Modulus.TheVariants as moduli

@@ -60,7 +60,7 @@ impl SecretKey {
         &self.coefficients
     }
 
-    /// The values of its residues modulo `Q1` or `Q2` at the odd powers of that modulus's root.
+    /// The values of its residues modulo `Q1` or `Q2` at the odd powers of that modulus's root. `m` is one of these two.
     pub fn values(&self, m: Modulus) -> &[u64]
         requires { m ≢ moduli.T }
         ensures values { result.now ≡ values_of m (residues_of (modulus_of m) self.now) }

@@ -1,4 +1,4 @@
-use Rattle.std.proofs.Common.{arith, rules, ℕ, ℤ, FitsSigned, w8, ◌+◌, ◌-◌, ◌*◌, ◌%◌, ◌<◌, ◌≡◌, ◌∙◌, ap, get_or, length, pos, subst, sym, List}
+use Rattle.std.proofs.Common.{arith, rules, ℕ, ℤ, FitsSigned, w8, ◌+◌, ◌-◌, ◌%◌, ◌<◌, ◌≡◌, ◌∙◌, ap, get_or, length, pos, subst, sym, List}
 use Rattle.std.proofs.lemmas.Int.{to_z-of_z}
 use Rattle.psi_residue.specs.Numbers.{modulus_of}
 use Rattle.psi_residue.specs.Polynomials.{IsPolynomial}

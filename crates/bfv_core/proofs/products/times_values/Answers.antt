@@ -1,4 +1,4 @@
-use Rattle.std.proofs.Common.{List, ℕ, ◌≡◌, ◌∙◌, ap, sym, replicate, get_or}
+use Rattle.std.proofs.Common.{◌≡◌, ◌∙◌, ap, replicate}
 use Rattle.psi_residue.specs.Numbers.{modulus_of}
 use Rattle.psi_residue.proofs.Moduli.{modulus-positive}
 use Rattle.psi_residue.proofs.Polynomials.{IsPolynomial-constant}

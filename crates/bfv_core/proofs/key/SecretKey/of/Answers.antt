@@ -1,4 +1,4 @@
-use Rattle.std.proofs.Common.{arith, ◌≡◌, ◌∙◌, ◌++◌, List, ℤ, take, drop, length, ap, sym, subst}
+use Rattle.std.proofs.Common.{arith, ◌∙◌, List, ℤ, ap, sym, subst}
 use Rattle.psi_residue.specs.declared.numbers.Modulus.TheVariants as moduli
 use Rattle.psi_residue.specs.Numbers.{first_modulus, second_modulus}
 use Rattle.psi_residue.specs.Residues.{residues_of}
