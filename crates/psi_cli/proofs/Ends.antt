@@ -19,7 +19,9 @@ use Rattle.std.specs.Io.KnownBytes.{Appends}
 use Rattle.noise_ledger.specs.Verdicts.{ArePassed}
 use Rattle.psi_cli.specs.declared.status.Status.{Status}
 use Rattle.psi_cli.specs.declared.status.Status.TheVariants as status
-use Rattle.psi_cli.specs.Leaving.{Ends, GivesUp, IsStatus, Leaves, number_of, status_of_read}
+use Rattle.psi_cli.specs.declared.serve.ServeFault.{ServeFault}
+use Rattle.psi_cli.specs.declared.serve.ServeFault.TheVariants as serve
+use Rattle.psi_cli.specs.Leaving.{Ends, GivesUp, IsStatus, Leaves, number_of, status_of_fault, status_of_read}
 use Rattle.psi_cli.specs.Runs.{AsksFor, IsAnswered, IsNoInput}
 use Rattle.psi_cli.proofs.Served.{text-input, length-input}
 
@@ -53,6 +55,20 @@ pub read-gives_up : (p : Parameters) (left : Option (List ℕ)) (before now : �
 read-gives_up p left before now read.Failed far counted = rose-once before now counted
 read-gives_up p left before now read.TooLong far counted = record { bad = longer p left far; no_read_failed = counted }
 read-gives_up p left before now read.NoMemory far counted = tt
+
+-- bytes that are no input are none of what the source had left
+unserved : (p : Parameters) (left : Option (List ℕ)) (bytes : List ℕ) → IfSome left (λ all. bytes ≡ all) → IsNoInput p bytes → IfSome left (IsNoInput p)
+unserved p None bytes same h = tt
+unserved p (Some all) bytes same h = subst (λ (bs : List ℕ). IsNoInput p bs) same h
+
+-- an input that was not served gives up the run
+pub serve-gives_up : (p : Parameters) (left : Option (List ℕ)) (before now : ℕ) (bytes shown : List ℕ) (fault : ServeFault)
+    → IfSome left (λ all. bytes ≡ all) → now ≡ before → shown ≡ bytes → (fault ≡ serve.BadInput → IsNoInput p shown) → GivesUp p left before now (status_of_fault fault)
+serve-gives_up p left before now bytes shown serve.BadInput same counted value bad = record {
+  bad = unserved p left bytes same (subst (λ (bs : List ℕ). IsNoInput p bs) value (bad refl));
+  no_read_failed = counted;
+}
+serve-gives_up p left before now bytes shown serve.NoMemory same counted value bad = tt
 
 -- words ask for one capacity alone
 pub asks-one : (words : List (List ℕ)) (a b : ℕ) → IsServe words a → IsServe words b → a ≡ b

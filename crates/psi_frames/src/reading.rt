@@ -116,18 +116,24 @@ mod tests {
 
     #[test]
     fn reads_frames(rt: HostRuntime) -> Result<(), Fail> {
-        let none = whole_frames(rt.alloc(), b"")?;
+        let none = whole_frames(rt.alloc(), b"").ok().expect(&rt, "frames");
         assert_eq!(rt; none.len(), 0);
-        let one = whole_frames(rt.alloc(), PUT_OF_ABC)?;
+        let one = whole_frames(rt.alloc(), PUT_OF_ABC)
+            .ok()
+            .expect(&rt, "frames");
         assert_eq!(rt; one.len(), 1);
         let drop = whole_frames(
             rt.alloc(),
             b"\x00\x00\x00\x0b\x02\x00\x01\x00\x00\x00\x02\x03abc",
-        )?;
+        )
+        .ok()
+        .expect(&rt, "frames");
         let two = whole_frames(
             rt.alloc(),
             b"\x00\x00\x00\x0b\x01\x00\x01\x00\x00\x00\x01\x03abc\x00\x00\x00\x07\x03\x02\x03\x04\x05\x06\x07",
-        )?;
+        )
+        .ok()
+        .expect(&rt, "frames");
         for (frames, at, kind, session, number, body) in [
             (&one, 0, 1, 1, 1, b"\x03abc".as_slice()),
             (&drop, 0, 2, 1, 2, b"\x03abc".as_slice()),

@@ -1,5 +1,5 @@
 //! Requests: what a frame of the request table asks.
-ghost use Rattle.std.specs.Prelude.{◌≡◌, ◌<◌, ◌≤◌, IfOk, IsNone, Some, length, IsTrue};
+ghost use Rattle.std.specs.Prelude.{◌≡◌, ◌<◌, ◌≤◌, IfOk, IfSome, IsNone, Some, length, IsTrue};
 ghost use Rattle.psi_bundle.specs.Versions.{HasLabelLength};
 ghost use Rattle.item_slots.specs.Tags.{tag_of};
 ghost use Rattle.noise_ledger.specs.Verdicts.{ArePassed, parameters_of};
@@ -261,8 +261,6 @@ fn short_label(bytes: &[u8]) -> Label
 
 #[cfg(test)]
 mod tests {
-    ghost use Rattle.std.specs.Prelude.{IfSome};
-
     use super::*;
     use crate::body::Body;
     use noise_ledger::check;
