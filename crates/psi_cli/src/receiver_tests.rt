@@ -185,6 +185,6 @@ fn an_item_is_found_until_it_is_dropped(rt: HostRuntime) {
         assert_eq!(rt; text.get(at + 4), Some(&kind));
         assert_eq!(rt; text.get(at + 18), Some(&place));
     }
-    assert_eq!(rt; before.as_slice(), &[0]);
+    assert_eq!(rt; before.as_slice(), [0].as_slice());
     assert!(rt; after.is_empty());
 }
