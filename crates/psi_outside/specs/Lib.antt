@@ -5,3 +5,4 @@ pub mod Names
 pub mod Plans
 pub mod InMemory
 pub mod Adapters
+pub mod Ends

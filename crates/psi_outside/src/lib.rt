@@ -1,6 +1,6 @@
 //! The traits by which the product meets the outside, each with a count of faults: a source and a sink of bytes, files
-//! that are read whole, and a gate that threads pass. Beside each stand an object in memory, which fails when it is
-//! told to, and an adapter over std. Over any source and sink, `read_all` reads to the end and `write_all` writes a
+//! that are read whole, and a gate that threads pass. Beside each stand an object in memory, which fails or holds back when
+//! it is told to, and, but for the gate, an adapter over std. Over any source and sink, `read_all` reads to the end and `write_all` writes a
 //! whole text.
 #![tactic(auto)]
 
@@ -8,6 +8,7 @@ mod disk_files;
 mod faults;
 mod files;
 mod gate;
+mod held;
 mod memory_files;
 mod memory_sink;
 mod memory_source;
@@ -25,6 +26,7 @@ pub use disk_files::DiskFiles;
 pub use faults::{Failed, FileFault, ReadFault};
 pub use files::Files;
 pub use gate::{Gate, Open, Point};
+pub use held::{Held, Hold};
 pub use memory_files::MemoryFiles;
 pub use memory_sink::MemorySink;
 pub use memory_source::MemorySource;

@@ -201,6 +201,32 @@ fn objects_cross_threads_and_an_open_gate_lets_pass(rt: HostRuntime) -> Result<(
 }
 
 #[test]
+fn a_held_gate_waits_for_what_was_not_passed(rt: HostRuntime) -> Result<(), Fail> {
+    let alloc = rt.alloc();
+    let before = (Point::BeforeTurn, 0);
+    let after = (Point::AfterTurn, 0);
+    // What is passed, and then whether the limit was used up and whether the hold was met.
+    let rows: [(&[(Point, u32)], bool, bool); 2] = [
+        (&[before], true, false),
+        (&[after, before], false, true),
+    ];
+    for (passes, late, met) in rows {
+        let holds = vec![in alloc;
+            Hold {
+                at: before,
+                until: after
+            },
+        ]?;
+        let held = Held::open(8, holds);
+        for &(point, index) in passes {
+            held.pass(&rt, point, index);
+        }
+        assert_eq!(rt; (held.late(&rt), held.met(&rt, 0)), (late, met));
+    }
+    Ok(())
+}
+
+#[test]
 fn files_on_the_disk_are_read_whole_or_refused(rt: HostRuntime) -> Result<(), Fail> {
     let alloc = rt.alloc();
     fs::write(&rt, "full", "abc")?;
