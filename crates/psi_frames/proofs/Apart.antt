@@ -1,5 +1,5 @@
 -- No reply frame begins another one: the length word tells where it ends.
-use Rattle.std.specs.Prelude.{◌≡◌, ℕ, ◌+◌, ◌≤◌, ◌<◌, ◌^◌, List, [], ◌++◌, length}
+use Rattle.std.specs.Prelude.{◌≡◌, ℕ, ◌+◌, ◌≤◌, List, [], ◌++◌, length}
 use Rattle.std.proofs.Common.{ap, arith, append-nil, length-append}
 use Rattle.std.proofs.lemmas.List.{nil_from_length}
 use Rattle.byteorder.specs.Endian.{big_bytes, big_number}

@@ -1,7 +1,7 @@
 -- The places of the one-thread sender's exchanges follow on, round by round.
-use Rattle.std.specs.Prelude.{◌≡◌, ℕ, zero, suc, ◌+◌, ◌-◌, ◌<◌, ◌≤◌, min, Bool, true, false, nat_eq, nat_lt, List, [], ◌∷◌, ◌++◌, length, map, filter, Option, Some, None, if◌then◌else◌}
-use Rattle.std.specs.List.{AllByRecursion, enumerate_from, flat_map, filter_map, range_with_len}
-use Rattle.std.proofs.Common.{refl, sym, ap, ◌∙◌, subst, arith, inl, inr, length-append, eq-eqb, ne_eqb}
+use Rattle.std.specs.Prelude.{◌≡◌, ℕ, ◌+◌, ◌-◌, ◌<◌, ◌≤◌, min, Bool, true, false, nat_eq, nat_lt, List, [], ◌∷◌, ◌++◌, length, map, filter, Option, Some, None, if◌then◌else◌}
+use Rattle.std.specs.List.{AllByRecursion, enumerate_from, flat_map, range_with_len}
+use Rattle.std.proofs.Common.{refl, sym, ap, ◌∙◌, subst, arith, length-append, eq-eqb}
 use mathlib.Core.Logic.{dite}
 use native.Mathlib.Decide.{ℕ_discrete}
 use Rattle.std.proofs.lemmas.Bool.{lt-ltb}
@@ -13,8 +13,8 @@ use Rattle.psi_residue.specs.Parameters.{Parameters}
 use Rattle.psi_bundle.specs.declared.history.Call.{Call}
 use Rattle.psi_bundle.specs.Versions.{Version}
 use Rattle.psi_frames.specs.declared.request.Request.{Request}
-use Rattle.psi_frames.specs.Served.{Exchange, requests_of, numbered, place_of, places_in, places_of_round, is_uncoded_in, uncoded_of_round, journal_limit}
-use Rattle.psi_frames.specs.OneLane.{call_on, reply_by, version_by, lane_next, lane_history}
+use Rattle.psi_frames.specs.Served.{Exchange, requests_of, place_of, places_in, places_of_round, is_uncoded_in, uncoded_of_round, journal_limit}
+use Rattle.psi_frames.specs.OneLane.{call_on, reply_by, lane_next, lane_history}
 use Rattle.psi_frames.proofs.Each.{each-weaker, each-both, each-append}
 use Rattle.psi_frames.proofs.Turns.{place-reply, count-behind}
 use Rattle.psi_frames.proofs.Lanes.{seconds, lane, lane_end, lane-append, count-end, places-kept, places-others, uncoded, length-history, uncoded-kept, uncoded-others}

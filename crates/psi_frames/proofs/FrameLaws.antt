@@ -1,14 +1,12 @@
 -- Laws of frames as bytes: reading a frame undoes writing it, so no bytes are two lists of frames.
-use Rattle.std.proofs.Common.{◌≡◌, ℕ, zero, suc, ◌+◌, ◌-◌, ◌*◌, ◌/◌, ◌%◌, ◌^◌, ◌<◌, ◌≤◌, List, [], ◌∷◌, ◌++◌, length, take, drop, slice_index, refl, sym, ap, ◌∙◌, arith, append_assoc, length-append, length-drop}
-use Rattle.std.proofs.Math.Nat.{mod-eq_of_lt, mul-add-mod_self_right, mul-add-div_right, div-eq_of_lt, div-one, one-le-pow}
+use Rattle.std.proofs.Common.{◌≡◌, ℕ, ◌+◌, ◌%◌, ◌^◌, ◌<◌, ◌≤◌, List, [], ◌∷◌, ◌++◌, length, take, drop, slice_index, refl, sym, ap, ◌∙◌, arith, append_assoc, length-append, length-drop}
+use Rattle.std.proofs.Math.Nat.{mod-eq_of_lt}
 use Rattle.std.proofs.Math.Seq.{drop-append_seam, take-append_seam}
 use Rattle.std.proofs.lemmas.List.{take-append-drop, drop-drop, length-take-le, get_or-drop, append-nil}
-use Rattle.std.proofs.lemmas.Nat.{pow-add}
 use Rattle.std.proofs.lemmas.List.Elements.{All-head, All-tail, All-take, All-drop, All-from_get_or}
-use Rattle.std.specs.Int.{byte_at, bytes_high_first}
 use Rattle.std.specs.List.{All}
-use Rattle.byteorder.specs.Endian.{big_from, big_number, big_bytes}
-use Rattle.byteorder.specs.Numbers.{big_from-cons, big_from-lt, big_number-reads_back}
+use Rattle.byteorder.specs.Endian.{big_number, big_bytes}
+use Rattle.byteorder.specs.Numbers.{big_from-lt, big_number-reads_back}
 use Rattle.item_slots.proofs.BigBytes.{big_bytes-big_number, bytes_from, written_again}
 use Rattle.psi_frames.specs.declared.frame.Frame.{Frame}
 use Rattle.psi_frames.specs.Frames.{spelled, frame_bytes, frames_bytes, IsSpellable, head_bytes, greatest_length}

@@ -1,12 +1,12 @@
 -- The one-thread sender's replies to rounds serve them, from a start behind a given history, and are of one lane.
-use Rattle.std.specs.Prelude.{◌≡◌, ℕ, zero, suc, ◌+◌, ◌-◌, ◌<◌, ◌≤◌, min, Bool, true, false, nat_eq, nat_lt, List, [], ◌∷◌, ◌++◌, length, map, take, Option, Some, None, IsSome, slice_get}
-use Rattle.std.specs.List.{All, AllPairs, AllByRecursion, fold, range_with_len}
+use Rattle.std.specs.Prelude.{◌≡◌, ℕ, ◌+◌, ◌-◌, ◌<◌, ◌≤◌, min, true, List, [], ◌∷◌, ◌++◌, length, take, Option, Some, None, IsSome, slice_get}
+use Rattle.std.specs.List.{All, AllPairs, AllByRecursion, range_with_len}
 use Rattle.std.specs.List.Sorted.{IsPermutation}
 use Rattle.std.specs.Option.{option_map}
 use Rattle.std.proofs.Common.{refl, sym, ap, ◌∙◌, subst, arith, inl, inr, append_assoc, append-nil, length-append}
 use Rattle.std.proofs.Math.Seq.{take-append_seam, get_or-append_seam}
 use Rattle.std.proofs.lemmas.Option.{slice_get-get_or}
-use Rattle.std.proofs.lemmas.List.Elements.{All-from_recursion, recursion_from_All}
+use Rattle.std.proofs.lemmas.List.Elements.{All-from_recursion}
 use Rattle.std.proofs.lemmas.List.FromFn.{length-range_with_len}
 use Rattle.std.proofs.lemmas.List.Kept.{AllPairs-cons}
 use Rattle.std.proofs.lemmas.List.Sorted.{IsPermutation-refl}
@@ -25,10 +25,10 @@ use Rattle.psi_frames.specs.declared.reply.Reply.TheVariants as reply
 use Rattle.psi_frames.specs.declared.request.Request.{Request}
 use Rattle.psi_frames.specs.declared.request.Request.TheVariants as request
 use Rattle.psi_frames.specs.Requests.{call_of, code_of, is_repack, journal_full, query_of}
-use Rattle.psi_frames.specs.Served.{Exchange, Sent, exchanges, numbered, requests_of, text_of, place_of, from_of, from_or_zero, answer_of, body_of, places_of_round, uncoded_of_round, entry_of, address_of_reply, address_of_request, journal_limit, SameSession, PlacesRise, StaysFull, SeesOwn, IsRecorded, IsHistoryOf, HasPlaceOrIsFull, FollowOn, PlacesFollowOn, AnswersAreSteps, IsFromWithin, FromsSeeEarlier, IsEvaluated, AreServed, IsServed, IsOneLane, IsOneLaneText}
+use Rattle.psi_frames.specs.Served.{Exchange, Sent, exchanges, requests_of, text_of, place_of, from_of, from_or_zero, places_of_round, uncoded_of_round, journal_limit, PlacesRise, StaysFull, IsRecorded, HasPlaceOrIsFull, FollowOn, IsFromWithin, IsEvaluated, AreServed, IsOneLane, IsOneLaneText}
 use Rattle.psi_frames.specs.OneLane.{HasByteCode, call_on, entries_by, lane_history, lane_next, lane_replies, lane_reply, reply_by, reply_of, version_by}
 use Rattle.psi_frames.proofs.Each.{each-vacuous, each-weaker}
-use Rattle.psi_frames.proofs.Turns.{Turned, turned, answer-reply, body-reply, count-behind, count-step, from-reply, no_refusal, place-reply, repack-tells}
+use Rattle.psi_frames.proofs.Turns.{Turned, turned, answer-reply, body-reply, count-step, from-reply, no_refusal, place-reply, repack-tells}
 use Rattle.psi_frames.proofs.Lanes.{addresses, lane, paired, paired-lane, places-kept, seconds}
 use Rattle.psi_frames.proofs.Following.{IsBehind, before, lane-behind, lane-follows, lane-from_count, numbered_from, seconds-numbered}
 

@@ -1,20 +1,15 @@
 -- The exchanges of the one-thread sender, and that they serve their rounds.
-use Rattle.std.specs.Prelude.{◌≡◌, ℕ, zero, suc, ◌+◌, ◌-◌, ◌<◌, ◌≤◌, min, Bool, true, false, nat_eq, nat_lt, is_none, List, [], ◌∷◌, ◌++◌, length, map, filter, take, Option, Some, None, IsSome, slice_get, if◌then◌else◌, ⊤}
-use Rattle.std.specs.List.{All, AllPairs, AllByRecursion, enumerate_from, flat_map, filter_map, range_with_len, zip}
-use Rattle.std.proofs.Common.{refl, sym, ap, ◌∙◌, subst, arith, inl, inr, append_assoc, length-append}
-use Rattle.std.proofs.lemmas.Bool.{lt-ltb, eq-eqb}
-use Rattle.std.proofs.lemmas.List.{map-append, append-nil}
-use Rattle.std.proofs.lemmas.List.Elements.{All-from_recursion, filter_map-append}
+use Rattle.std.specs.Prelude.{◌≡◌, ℕ, suc, ◌+◌, ◌-◌, min, Bool, true, false, nat_eq, is_none, List, [], ◌∷◌, ◌++◌, length, map, filter, Option, Some, None}
+use Rattle.std.specs.List.{AllByRecursion, range_with_len, zip}
+use Rattle.std.proofs.Common.{refl, ap, ◌∙◌, arith, length-append}
 use Rattle.psi_residue.specs.Parameters.{Parameters}
 use Rattle.psi_bundle.specs.declared.history.Call.{Call}
-use Rattle.psi_bundle.specs.declared.history.Entry.{Entry}
 use Rattle.psi_bundle.specs.Versions.{Version}
 use Rattle.psi_bundle.specs.Steps.{step}
-use Rattle.query_codec.specs.Replies.{reply_body}
 use Rattle.psi_frames.specs.declared.request.Request.{Request}
-use Rattle.psi_frames.specs.Requests.{code_of, query_of}
-use Rattle.psi_frames.specs.Served.{Exchange, Sent, exchanges, numbered, requests_of, place_of, places_in, places_of_round, all_places, is_uncoded_in, uncoded_of_round, address_of_reply, address_of_request, journal_limit}
-use Rattle.psi_frames.specs.OneLane.{call_on, reply_by, version_by, entries_by, lane_reply, lane_next, lane_sent, lane_replies, lane_history}
+use Rattle.psi_frames.specs.Requests.{code_of}
+use Rattle.psi_frames.specs.Served.{Exchange, Sent, place_of, places_in, uncoded_of_round, address_of_reply, address_of_request, journal_limit}
+use Rattle.psi_frames.specs.OneLane.{call_on, reply_by, version_by, entries_by, lane_reply, lane_next, lane_replies, lane_history}
 use Rattle.psi_frames.proofs.Turns.{Turned, turned, place-reply, count-step, count-behind}
 
 -- requests with the numbers of their rounds, without these

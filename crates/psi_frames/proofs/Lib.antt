@@ -11,3 +11,11 @@ pub mod Ranges
 pub mod OneText
 pub mod OnlyText
 pub mod Apart
+pub mod Bytes
+pub mod Fronts
+pub mod Heads
+pub mod Feeding
+pub mod Counting
+pub mod Readings
+pub mod RoundRequests
+pub mod ReplyLaws

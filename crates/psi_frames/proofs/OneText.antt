@@ -1,24 +1,18 @@
 -- Replies of one lane that serve rounds are those of the one-thread sender.
-use Rattle.std.specs.Prelude.{◌≡◌, ℕ, zero, suc, ◌+◌, ◌-◌, ◌<◌, ◌≤◌, min, Bool, true, false, nat_eq, nat_lt, is_none, List, [], ◌∷◌, ◌++◌, length, map, filter, take, Option, Some, None, IsSome, slice_get, if◌then◌else◌, ⊤}
-use Rattle.std.specs.List.{All, AllPairs, AllByRecursion, filter_map, range_with_len}
-use Rattle.std.specs.List.Sorted.{IsPermutation}
-use Rattle.std.specs.Option.{option_map}
-use Rattle.std.proofs.Common.{refl, sym, ap, ◌∙◌, ◌⊎◌, subst, arith, inl, inr, append_assoc, append-nil, get_or, length-append}
+use Rattle.std.specs.Prelude.{◌≡◌, ℕ, suc, ◌+◌, ◌-◌, ◌<◌, ◌≤◌, min, Bool, true, false, nat_eq, nat_lt, is_none, List, [], ◌∷◌, ◌++◌, length, filter, Option, Some, None, if◌then◌else◌}
+use Rattle.std.specs.List.{All, AllPairs, AllByRecursion, range_with_len}
+use Rattle.std.proofs.Common.{refl, sym, ap, ◌∙◌, ◌⊎◌, arith, inl, inr, append-nil, get_or, length-append}
 use Rattle.std.proofs.Math.Seq.{get_or-append_seam}
 use Rattle.std.proofs.lemmas.Bool.Decides.{nat_tests}
 use Rattle.std.proofs.lemmas.List.Elements.{filter_map-append, filter-append, recursion_from_All}
 use Rattle.std.proofs.lemmas.List.FromFn.{get_or-range_with_len, length-range_with_len}
 use Rattle.psi_residue.specs.Parameters.{Parameters}
-use Rattle.psi_bundle.specs.declared.history.Answer.{Answer}
-use Rattle.psi_bundle.specs.declared.history.Answer.TheVariants as answer
 use Rattle.psi_bundle.specs.declared.history.Entry.{Entry}
 use Rattle.psi_bundle.specs.Versions.{Version}
-use Rattle.psi_bundle.specs.Histories.{IsLegal, after, replay, version_at}
-use Rattle.psi_frames.specs.declared.reply.Reply.{Reply}
 use Rattle.psi_frames.specs.declared.reply.Reply.TheVariants as reply
 use Rattle.psi_frames.specs.declared.request.Request.{Request}
-use Rattle.psi_frames.specs.Requests.{code_of, journal_full}
-use Rattle.psi_frames.specs.Served.{Exchange, place_of, places_in, places_of_round, all_places, is_uncoded_in, uncoded_of_round, first_place, journal_limit, AreServed, IsOneLane, PlacesRise, StaysFull}
+use Rattle.psi_frames.specs.Requests.{code_of}
+use Rattle.psi_frames.specs.Served.{Exchange, place_of, places_in, places_of_round, all_places, is_uncoded_in, uncoded_of_round, first_place, journal_limit, AreServed, IsOneLane, PlacesRise}
 use Rattle.psi_frames.proofs.Each.{each-weaker}
 use Rattle.psi_frames.proofs.Following.{before}
 use Rattle.psi_frames.proofs.Ranges.{RisesFrom, rising-range}

@@ -1,9 +1,9 @@
 -- From each start, behind each history, one text alone is that of one lane.
-use Rattle.std.specs.Prelude.{◌≡◌, ℕ, zero, suc, ◌+◌, ◌<◌, ◌≤◌, true, false, List, [], ◌∷◌, ◌++◌, length, map, take, drop, Option, Some, None, IsSome, slice_get, ⊤}
+use Rattle.std.specs.Prelude.{◌≡◌, ℕ, suc, ◌+◌, ◌<◌, ◌≤◌, true, List, [], ◌∷◌, ◌++◌, length, map, take, drop, Option, Some, None, IsSome, slice_get, ⊤}
 use Rattle.std.specs.List.{All, AllPairs, AllByRecursion}
 use Rattle.std.specs.Option.{option_map}
-use Rattle.std.proofs.Common.{refl, sym, ap, ◌∙◌, ◌⊎◌, subst, arith, inl, inr, append_assoc, append-nil, length-append}
-use Rattle.std.proofs.lemmas.List.Elements.{All-from_recursion, recursion_from_All}
+use Rattle.std.proofs.Common.{refl, sym, ap, ◌∙◌, subst, arith, inl, inr, append_assoc, length-append}
+use Rattle.std.proofs.lemmas.List.Elements.{recursion_from_All}
 use Rattle.std.proofs.lemmas.List.{take-append-drop}
 use Rattle.std.proofs.lemmas.Option.{slice_get_past}
 use Rattle.psi_residue.specs.Parameters.{Parameters}
@@ -19,9 +19,9 @@ use Rattle.psi_frames.specs.declared.reply.Reply.{Reply}
 use Rattle.psi_frames.specs.declared.reply.Reply.TheVariants as reply
 use Rattle.psi_frames.specs.declared.request.Request.{Request}
 use Rattle.psi_frames.specs.declared.request.Request.TheVariants as request
-use Rattle.psi_frames.specs.Requests.{call_of, code_of, is_repack, journal_full, number_of, query_of, session_of}
-use Rattle.psi_frames.specs.Served.{Exchange, Sent, exchanges, requests_of, text_of, place_of, from_of, from_or_zero, answer_of, body_of, all_places, entry_of, address_of_reply, address_of_request, journal_limit, AreServed, HasPlaceOrIsFull, IsEvaluated, IsOneLane, IsOneLaneText, IsRecorded, StaysFull}
-use Rattle.psi_frames.specs.OneLane.{HasByteCode, LaneRepliesAreOfOneLane, OneTextIsOfOneLane, call_on, entries_by, lane_next, lane_replies, lane_reply, reply_by, reply_of, version_by}
+use Rattle.psi_frames.specs.Requests.{call_of, code_of, is_repack, journal_full, query_of}
+use Rattle.psi_frames.specs.Served.{Exchange, Sent, exchanges, requests_of, text_of, place_of, from_of, from_or_zero, answer_of, body_of, all_places, address_of_reply, address_of_request, journal_limit, AreServed, HasPlaceOrIsFull, IsEvaluated, IsOneLane, IsRecorded, StaysFull}
+use Rattle.psi_frames.specs.OneLane.{HasByteCode, LaneRepliesAreOfOneLane, OneTextIsOfOneLane, call_on, entries_by, lane_next, lane_replies, lane_reply, reply_by, reply_of}
 use Rattle.psi_frames.proofs.Each.{each-append, each-weaker}
 use Rattle.psi_frames.proofs.Turns.{Turned, turned, count-behind, place-reply}
 use Rattle.psi_frames.proofs.Lanes.{paired, seconds}

@@ -1,23 +1,20 @@
 -- One turn of the one-thread sender: what a request makes of a version, its reply, and the count of entries behind it.
-use Rattle.std.specs.Prelude.{◌≡◌, ℕ, ◌+◌, ◌<◌, ◌≤◌, Bool, true, false, nat_lt, nat_le, is_some, List, [], ◌∷◌, ◌++◌, length, Option, Some, None, IsSome, if◌then◌else◌}
-use Rattle.std.proofs.Common.{refl, sym, ap, ◌∙◌, arith, inl, inr, ◌⊎◌}
+use Rattle.std.specs.Prelude.{◌≡◌, ℕ, ◌+◌, ◌<◌, ◌≤◌, Bool, true, false, nat_lt, nat_le, is_some, List, length, Option, Some, None, IsSome, if◌then◌else◌}
+use Rattle.std.proofs.Common.{refl, arith, inl, inr, ◌⊎◌}
 use Rattle.std.proofs.lemmas.Bool.{ltb-true}
 use Rattle.std.proofs.lemmas.Bool.Decides.{nat_tests}
 use Rattle.std.specs.FinMap as fin
-use Rattle.psi_residue.specs.Parameters.{Parameters}
 use Rattle.psi_bundle.specs.declared.history.Call.{Call}
 use Rattle.psi_bundle.specs.declared.history.Call.TheVariants as call
 use Rattle.psi_bundle.specs.declared.history.Answer.{Answer}
 use Rattle.psi_bundle.specs.declared.history.Answer.TheVariants as answer
-use Rattle.psi_bundle.specs.declared.history.Entry.{Entry}
 use Rattle.psi_bundle.specs.Versions.{Version, Row, row_at, placed, planes_of, cells_of, greatest_stamp, packed_row, members_of_row}
 use Rattle.psi_bundle.specs.Steps.{Step, step, replace, add, remove, repack, next, unchanged, fits}
-use Rattle.psi_frames.specs.declared.reply.Reply.{Reply}
 use Rattle.psi_frames.specs.declared.reply.Reply.TheVariants as reply
 use Rattle.psi_frames.specs.declared.request.Request.{Request}
 use Rattle.psi_frames.specs.declared.request.Request.TheVariants as request
-use Rattle.psi_frames.specs.Requests.{call_of, code_of, is_repack}
-use Rattle.psi_frames.specs.Served.{place_of, from_of, refusal_of, body_of, answer_of, from_or_zero, journal_limit}
+use Rattle.psi_frames.specs.Requests.{call_of, code_of}
+use Rattle.psi_frames.specs.Served.{place_of, from_of, body_of, answer_of, journal_limit}
 use Rattle.psi_frames.specs.OneLane.{reply_of, call_on, version_by, entries_by}
 
 -- of two steps to one count, either way

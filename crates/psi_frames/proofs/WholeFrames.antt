@@ -9,7 +9,7 @@ use Rattle.std.specs.Cmp.Derive.{both_true}
 use Rattle.std.specs.List.{All}
 use Rattle.byteorder.specs.Endian.{big_number}
 use Rattle.psi_frames.specs.declared.frame.Frame.{Frame}
-use Rattle.psi_frames.specs.Frames.{IsSpellable, frame_bytes, frames_bytes, head_bytes, greatest_length, go_kind, put_kind, drop_kind, ask_kind, request_table, AreWholeFrames, IsFrame, most_bytes, front_fault}
+use Rattle.psi_frames.specs.Frames.{IsSpellable, frame_bytes, frames_bytes, head_bytes, greatest_length, go_kind, put_kind, drop_kind, ask_kind, request_table, IsFrame, most_bytes, front_fault}
 use Rattle.psi_frames.specs.Inputs.{IsPutDropAskFrame, IsPutDropAsk, is_put_drop_ask, AreFrames, begins_frame}
 use Rattle.psi_frames.specs.FrontFrames.{front_frame, behind_front}
 use Rattle.psi_frames.proofs.FrameLaws.{front_frame-frame, frame-front_frame, IsSpellable-front_frame, big_number-frame, length-frame_append, same_front, same_frames}

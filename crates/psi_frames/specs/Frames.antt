@@ -148,3 +148,8 @@ abbrev pub NoReplyBeginsAnother : Type 0
 NoReplyBeginsAnother =
     (session number other_session other_number : ℕ) (a b : Reply) (rest : List ℕ) → answer_fits a → answer_fits b
     → reply_bytes session number a ++ rest ≡ reply_bytes other_session other_number b → rest ≡ []
+
+-- No request frame begins another one, and no two have the same bytes.
+abbrev pub NoRequestBeginsAnother : Type 0
+NoRequestBeginsAnother =
+    (a b : Frame) (rest : List ℕ) → IsFrame request_table a → IsFrame request_table b → frame_bytes a ++ rest ≡ frame_bytes b → (a ≡ b) × (rest ≡ [])

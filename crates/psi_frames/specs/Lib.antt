@@ -5,3 +5,8 @@ pub mod Served
 pub mod OneLane
 pub mod Inputs
 pub mod FrontFrames
+pub mod Feeds
+pub mod Cuts
+pub mod RoundSizes
+pub mod ReplyFrames
+pub mod Parts

@@ -1,8 +1,8 @@
 -- Requests as values: what a request frame asks, or the code of a refusal that its bytes alone decide (the codes are this project's own).
-use Rattle.std.specs.Prelude.{ℕ, ◌+◌, Bool, true, false, ◌&&◌, not, nat_eq, nat_lt, nat_le, List, [], ◌∷◌, length, take, drop, slice_index, Option, None, Some, if◌then◌else◌}
+use Rattle.std.specs.Prelude.{◌≡◌, ℕ, ◌+◌, ◌*◌, ◌≤◌, ◌<◌, ⊤, Bool, true, false, ◌&&◌, not, nat_eq, nat_lt, nat_le, count_by, List, [], ◌∷◌, length, take, drop, slice_index, Option, None, Some, if◌then◌else◌}
 use Rattle.psi_residue.specs.Parameters.{Parameters}
 use Rattle.item_slots.specs.Tags.{tag_of}
-use Rattle.psi_bundle.specs.Versions.{has_label_length}
+use Rattle.psi_bundle.specs.Versions.{HasLabelLength, has_label_length}
 use Rattle.psi_bundle.specs.declared.history.Call.{Call}
 use Rattle.psi_bundle.specs.declared.history.Call.TheVariants as call
 use Rattle.query_codec.specs.declared.fault.CodecFault.{CodecFault}
@@ -163,3 +163,24 @@ is_repack (request.Put session number tag label) = false
 is_repack (request.Drop session number tag) = false
 is_repack (request.Ask session number query) = false
 is_repack (request.Bad session number code) = false
+
+-- an Ask
+abbrev pub is_ask : Request → Bool
+is_ask (request.Ask session number query) = true
+is_ask (request.Put session number tag label) = false
+is_ask (request.Drop session number tag) = false
+is_ask (request.Repack session number row) = false
+is_ask (request.Bad session number code) = false
+
+-- the Asks among some requests
+abbrev pub count_asks : List Request → ℕ
+count_asks rs = count_by is_ask rs
+
+-- A request that fits the parameters: a label has the set's length, a query a ciphertext for each row and power, a row to pack anew is
+-- one of the set's, and a refusal has a code that the bytes of a round decide.
+abbrev pub IsFit : Parameters → Request → Type 0
+IsFit p (request.Put session number tag label) = HasLabelLength p label
+IsFit p (request.Drop session number tag) = ⊤
+IsFit p (request.Ask session number query) = length query ≡ p.rows * p.capacity
+IsFit p (request.Repack session number row) = row < p.rows
+IsFit p (request.Bad session number code) = (wrong_length ≤ code) × (code ≤ too_many_asks)

@@ -1,5 +1,5 @@
 -- How the frames of an input fall into rounds, and what requests they are.
-use Rattle.std.specs.Prelude.{◌≡◌, ℕ, ◌+◌, ◌<◌, ◌^◌, Bool, ◌||◌, nat_eq, nat_le, IsTrue, IsFalse, List, [], ◌∷◌, length, map, take}
+use Rattle.std.specs.Prelude.{◌≡◌, ℕ, ◌+◌, ◌<◌, ◌^◌, Bool, ◌||◌, nat_eq, nat_le, IsTrue, IsFalse, List, length, map, take}
 use Rattle.std.specs.List.{All, flat_map, list_any}
 use Rattle.psi_residue.specs.Parameters.{Parameters}
 use Rattle.psi_frames.specs.declared.frame.Frame.{Frame}

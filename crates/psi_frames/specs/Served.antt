@@ -253,3 +253,9 @@ pub record IsOneLaneTextOf (p : Parameters) (frames : List Frame) (text : List â
   pub rounds : List (List Frame)
   pub are_rounds : AreRounds rounds frames
   pub one_lane : IsOneLaneText p (empty_version p) [] (request_rounds p rounds) text
+
+-- The same of any number of lanes.
+pub record IsServingTextOf (p : Parameters) (frames : List Frame) (text : List â„•) : Type 0 where
+  pub rounds : List (List Frame)
+  pub are_rounds : AreRounds rounds frames
+  pub serving : IsServingText p (empty_version p) [] (request_rounds p rounds) text

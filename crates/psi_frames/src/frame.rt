@@ -10,6 +10,12 @@ pub const DROP: u8 = 2;
 /// The kind of a frame that asks.
 pub const ASK: u8 = 3;
 
+/// The kind of a frame that packs a row anew.
+pub const REPACK: u8 = 4;
+
+/// The kind of a frame that ends its round.
+pub const GO: u8 = 5;
+
 /// The bytes that a frame's length word counts before the body: the kind, the session and the number.
 pub const HEAD_BYTES: usize = 7;
 

@@ -4,21 +4,40 @@
 //! number, which the reply repeats; and the body. All numbers are big-endian.
 #![tactic(auto)]
 
+mod answer;
+mod begun;
 mod body;
+mod cut;
+mod fault;
+mod feed;
 mod frame;
+mod front;
+mod head;
 mod laws;
 mod number;
 mod reading;
 mod reply;
 mod request;
+mod round_requests;
+mod round_size;
 mod rounds;
+#[cfg(test)]
+mod tests;
 mod writing;
 
+pub use crate::answer::read_answer;
 pub use crate::body::Body;
-pub use crate::frame::{ASK, DROP, Frame, PUT};
-pub use crate::laws::{no_reply_begins_another, one_text_is_of_one_lane};
+pub use crate::fault::FrameFault;
+pub use crate::feed::Feed;
+pub use crate::frame::{ASK, DROP, Frame, GO, PUT, REPACK};
+pub use crate::laws::{
+    no_reply_begins_another, no_request_begins_another, one_text_is_of_one_lane,
+    pieces_do_not_matter,
+};
 pub use crate::reading::{FramesFault, whole_frames};
 pub use crate::reply::Reply;
 pub use crate::request::{Request, read_request};
+pub use crate::round_requests::requests_of_round;
+pub use crate::round_size::RoundSize;
 pub use crate::rounds::is_one_round;
-pub use crate::writing::write_answer;
+pub use crate::writing::{write_answer, write_request};

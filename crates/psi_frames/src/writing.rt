@@ -1,9 +1,9 @@
-//! Replies as bytes.
+//! Frames as bytes.
 ghost use Rattle.std.specs.Prelude.{◌≡◌, ◌≤◌, ◌+◌, ◌++◌, length, OnOk, IfOk};
 ghost use Rattle.byteorder.specs.Endian.{big_bytes};
-ghost use Rattle.psi_frames.specs.Frames.{answer_fits, greatest_length, head_bytes, reply_bytes};
+ghost use Rattle.psi_frames.specs.Frames.{IsFrame, answer_fits, frame_bytes, greatest_length, head_bytes, reply_bytes, request_table};
 
-use crate::frame::HEAD_BYTES;
+use crate::frame::{Frame, HEAD_BYTES};
 use crate::number::{push_u8, push_u16, push_u32, push_u64};
 use crate::reply::Reply;
 use std::alloc::{AllocError, Global};
@@ -21,6 +21,25 @@ pub fn write_answer(
 {
     let mut text = Vec::new(alloc);
     append_answer(&mut text, session, number, reply)?;
+    Ok(text)
+}
+
+/// The bytes of a request frame, a Go frame among them. The only error is memory that runs out.
+#[tactic(auto, unfolding(crate::specs::Frames::spelled))]
+pub fn write_request(alloc: Global, frame: &Frame) -> Result<Vec<u8>, AllocError>
+    requires grammar { IsFrame request_table frame.now }
+    ensures frame { IfOk result (λ v. v.items ≡ frame_bytes frame.now) }
+{
+    let body = frame.body.items();
+    let mut text = Vec::with_capacity(alloc, 4 + HEAD_BYTES + body.len())?;
+    push_head(
+        &mut text,
+        frame.kind,
+        frame.session,
+        frame.number,
+        body.len(),
+    )?;
+    text.extend_from_slice(body)?;
     Ok(text)
 }
 

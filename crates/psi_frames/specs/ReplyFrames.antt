@@ -1,0 +1,46 @@
+-- Which frames are replies, and what they tell.
+use Rattle.std.specs.Prelude.{◌≡◌, ℕ, ◌<◌, ◌^◌, Bool, ◌&&◌, nat_eq, nat_le, List, drop, slice_index, if◌then◌else◌}
+use Rattle.byteorder.specs.Endian.{big_number}
+use Rattle.psi_frames.specs.declared.reply.Reply.{Reply}
+use Rattle.psi_frames.specs.declared.reply.Reply.TheVariants as reply
+use Rattle.psi_frames.specs.Frames.{is_kind_between, reply_content, reply_kind}
+
+-- A row of the table of replies: a kind, and a body of so many bytes. The body of an Answer has 8 bytes or more, and that of each other
+-- kind has one length.
+abbrev pub is_reply_row : (kind bytes : ℕ) → Bool
+is_reply_row kind bytes =
+    if is_kind_between 129 132 kind then nat_eq bytes 8
+    else (if nat_eq kind 133 then nat_eq bytes 16
+    else (if nat_eq kind 134 then nat_le 8 bytes
+    else (if nat_eq kind 135 then nat_eq bytes 20 else (if nat_eq kind 136 then nat_eq bytes 24 else nat_eq kind 137 && nat_eq bytes 1))))
+
+-- the numbers of a reply are in the ranges of their fields
+abbrev pub AreInRange : Reply → Type 0
+AreInRange (reply.Added place) = place < 2 ^ 64
+AreInRange (reply.Replaced place) = place < 2 ^ 64
+AreInRange (reply.Removed place) = place < 2 ^ 64
+AreInRange (reply.Absent place) = place < 2 ^ 64
+AreInRange (reply.Full place planes cells) = (place < 2 ^ 64) × (planes < 2 ^ 32) × (cells < 2 ^ 32)
+AreInRange (reply.Answer place body) = place < 2 ^ 64
+AreInRange (reply.Repacked place from before after) = (place < 2 ^ 64) × (from < 2 ^ 64) × (before < 2 ^ 16) × (after < 2 ^ 16)
+AreInRange (reply.Moved place from stamp) = (place < 2 ^ 64) × (from < 2 ^ 64) × (stamp < 2 ^ 64)
+AreInRange (reply.Refused code) = code < 2 ^ 8
+
+-- A frame of this kind and body tells the reply: they are the reply's.
+pub record Tells (kind : ℕ) (body : List ℕ) (r : Reply) : Type 0 where
+  pub same_kind : reply_kind r ≡ kind
+  pub same_body : reply_content r ≡ body
+  pub range : AreInRange r
+
+-- the reply that a kind and a body of a row tell: numbers from their places on
+unfoldable pub told_reply : (kind : ℕ) → List ℕ → Reply
+told_reply kind body =
+    let place = big_number 8 body in
+    if nat_eq kind 129 then reply.Added place
+    else (if nat_eq kind 130 then reply.Replaced place
+    else (if nat_eq kind 131 then reply.Removed place
+    else (if nat_eq kind 132 then reply.Absent place
+    else (if nat_eq kind 133 then reply.Full place (big_number 4 (drop 8 body)) (big_number 4 (drop 12 body))
+    else (if nat_eq kind 134 then reply.Answer place (drop 8 body)
+    else (if nat_eq kind 135 then reply.Repacked place (big_number 8 (drop 8 body)) (big_number 2 (drop 16 body)) (big_number 2 (drop 18 body))
+    else (if nat_eq kind 136 then reply.Moved place (big_number 8 (drop 8 body)) (big_number 8 (drop 16 body)) else reply.Refused (slice_index body 0))))))))
