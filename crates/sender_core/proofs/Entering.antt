@@ -1,5 +1,5 @@
 -- One entry more in a book is the step of its call.
-use Rattle.std.specs.Prelude.{◌≡◌, ℕ, ◌+◌, ◌≤◌, ◌<◌, Bool, true, false, is_some, nat_le, ◌&&◌, List, [], ◌∷◌, length, if◌then◌else◌}
+use Rattle.std.specs.Prelude.{◌≡◌, ℕ, ◌+◌, ◌≤◌, ◌<◌, Bool, true, false, is_some, nat_le, ◌&&◌, List, [], ◌∷◌, ◌++◌, length, if◌then◌else◌}
 use Rattle.std.specs.List.{fold}
 use Rattle.std.specs.FinMap as fin
 use Rattle.std.proofs.Common.{refl, sym, ap, ◌∙◌, subst, length-append}
@@ -61,6 +61,23 @@ module _ {C : Type 0} (old new : Contents C) where
   version-entered labels rows e h =
       let counted : length new.journal ≡ length old.journal + 1 = ap length h.written ∙ length-append old.journal (e ∷ []) in
       λ i. record { parameters = h.parameters i; count = counted i; labels = h.labelled i; rows = rows_of (h.bundled i) }
+
+  -- an entry that is written after a part of the contents was changed
+  pub entered-after : (mid : Contents C) (before labels : Labels) (rows : List (List (Kept C))) (e : Entry) → mid.parameters ≡ old.parameters → mid.start ≡ old.start → mid.journal ≡ old.journal → before ≡ labels
+      → IsEntered mid new before rows e → IsEntered old new labels rows e
+  entered-after mid before labels rows e parameters start journal is h = record {
+    parameters = h.parameters ∙ parameters;
+    start = h.start ∙ start;
+    labelled = h.labelled ∙ is;
+    bundled = h.bundled;
+    written = h.written ∙ ap (λ (es : List Entry). es ++ e ∷ []) journal;
+  }
+
+  -- an entry that is written after the rows were as before
+  pub entered-undone : (mid : Contents C) (rows : List (List (Kept C))) → rows ≡ old.rows → (e : Entry) → mid.parameters ≡ old.parameters → mid.start ≡ old.start → mid.journal ≡ old.journal
+      → IsEntered mid new (version_of old).labels rows e → IsEntered old new (version_of old).labels old.rows e
+  entered-undone mid rows is e parameters start journal h =
+      entered-after mid (version_of old).labels (version_of old).labels old.rows e parameters start journal refl (subst (λ (rs : List (List (Kept C))). IsEntered mid new (version_of old).labels rs e) is h)
 
   -- an entry with the step's answer, labels and rows
   pub entered : (c : Call) (s : Step) (labels : Labels) (rows : List (List (Kept C))) → step (version_of old) c ≡ s → s.version ≡ next (version_of old) labels (rows_of rows)

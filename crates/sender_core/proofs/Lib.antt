@@ -8,6 +8,8 @@ pub mod SoundPacked
 pub mod SoundSteps
 pub mod Caches
 pub mod RowLists
+pub mod UndoLemmas
+pub mod RowChanges
 pub mod Counting
 pub mod TagMaps
 pub mod Entering

@@ -2,7 +2,7 @@
 use Rattle.std.specs.Prelude.{◌≡◌, ℕ, ◌+◌, ◌/◌, ◌%◌, ◌<◌, Bool, true, List, [], ◌∷◌, ◌++◌, Some, None, length, map, drop, slice_index_or, slice_set, if◌then◌else◌}
 use Rattle.std.specs.List.{fold, position_from}
 use Rattle.std.specs.Arc.{arc_value}
-use Rattle.std.proofs.Common.{sym, ap, ◌∙◌, arith, add-one, subst, Vec, Global}
+use Rattle.std.proofs.Common.{refl, sym, ap, ◌∙◌, arith, add-one, subst, Vec, Global}
 use Rattle.std.proofs.lemmas.List.{map-set, map-append, get_or_default, length-map}
 use Rattle.std.proofs.Math.Seq.{drop-cons}
 use Rattle.std.proofs.Math.ListN.{get_or-map}
@@ -12,10 +12,10 @@ use Rattle.item_slots.specs.Tags.{bins_of_row}
 use Rattle.psi_bundle.specs.Bins.{accepts, holds, bin_at, empty_bins}
 use Rattle.psi_bundle.specs.Versions.{Stamped, Row, first_fit, joined, fresh, with_bin, placed_at, changed_at, row_at, greatest_stamp}
 use Rattle.sender_core.specs.declared.rows.Change.{Change}
-use Rattle.sender_core.specs.Kept.{Kept, stamped_of, row_of, rows_of, kept_row, RowKeepsCaches, KeepCaches}
+use Rattle.sender_core.specs.Kept.{Kept, stamped_of, row_of, rows_of, kept_row, KeepCaches}
 use Rattle.sender_core.specs.Shown.{kept_of, kept_of_row, kept_of_rows}
 use Rattle.sender_core.specs.Changes.{bin_after, changed_bundle}
-use Rattle.sender_core.proofs.Caches.{row-set, row-append, rows-set, rows-after, row-changed, changed-alone}
+use Rattle.sender_core.proofs.Caches.{row-set, row-append, rows-set, changed-alone}
 use Rattle.psi_bundle.proofs.FirstFit.{position-map, position_passes, place-at, place-none}
 
 -- one more position of a fold
@@ -75,49 +75,6 @@ module _ {C : Type 0} where
   newest-read items r old shown n lt here is same =
       is ∙ ap (λ (us : List (Shown C)). greatest_stamp (row_of (kept_of_row us))) same ∙ ap (λ (ks : List (Kept C)). greatest_stamp (row_of ks)) (sym (row-read items r old lt here))
 
-  -- one more position of a tag is placed
-  pub placed-more : (capacity stamp : ℕ) (m : Member) (items : List (Vec (Shown C) Global)) (old new : Vec (Shown C) Global) (ps : List ℕ) (i : ℕ) (all : List Row)
-      → i < length ps → slice_index_or ps i 0 / bins_of_row < length items → old ≡ slice_index_or items (slice_index_or ps i 0 / bins_of_row) old
-      → row_of (kept_of_row new.items) ≡ first_fit capacity stamp (slice_index_or ps i 0 % bins_of_row) m (row_of (kept_of_row old.items))
-      → fold (placed_at capacity stamp m) (rows_of (kept_of_rows items)) (drop i ps) ≡ all
-      → fold (placed_at capacity stamp m) (rows_of (kept_of_rows (slice_set items (slice_index_or ps i 0 / bins_of_row) new))) (drop (i + 1) ps) ≡ all
-  placed-more capacity stamp m items old new ps i all lt within here fit so_far =
-      let p = slice_index_or ps i 0 in
-      let r = p / bins_of_row in
-      let at = row-read items r old within here in
-      let is = ap rows_of (kept_rows-set items r new)
-      ∙ placed-once capacity stamp p m (kept_of_rows items) (kept_of_row new.items) (fit ∙ ap (λ (ks : List (Kept C)). first_fit capacity stamp (p % bins_of_row) m (row_of ks)) (sym at)) in
-      fold_more (placed_at capacity stamp m) (rows_of (kept_of_rows items)) _ all ps i 0 lt is so_far
-
-  -- one more position of a tag is changed
-  pub changed-more : (stamp : ℕ) (c : Change) (tag : List ℕ) (items : List (Vec (Shown C) Global)) (old new : Vec (Shown C) Global) (ps : List ℕ) (i : ℕ) (all : List Row)
-      → i < length ps → slice_index_or ps i 0 / bins_of_row < length items → old ≡ slice_index_or items (slice_index_or ps i 0 / bins_of_row) old
-      → kept_of_row new.items ≡ map (changed_bundle stamp (slice_index_or ps i 0 % bins_of_row) c tag) (kept_of_row old.items)
-      → fold (changed_at stamp (bin_after c tag) tag) (rows_of (kept_of_rows items)) (drop i ps) ≡ all
-      → fold (changed_at stamp (bin_after c tag) tag) (rows_of (kept_of_rows (slice_set items (slice_index_or ps i 0 / bins_of_row) new))) (drop (i + 1) ps) ≡ all
-  changed-more stamp c tag items old new ps i all lt within here made so_far =
-      let p = slice_index_or ps i 0 in
-      let r = p / bins_of_row in
-      let at = row-read items r old within here in
-      let is = ap rows_of (kept_rows-set items r new)
-      ∙ changed-once stamp p c tag (kept_of_rows items) (kept_of_row new.items) (made ∙ ap (map (changed_bundle stamp (p % bins_of_row) c tag)) (sym at)) in
-      fold_more (changed_at stamp (bin_after c tag) tag) (rows_of (kept_of_rows items)) _ all ps i 0 lt is so_far
-
-  -- the caches, where one row keeps them
-  pub caches-more : (stamp r : ℕ) (first : List (List (Kept C))) (items : List (Vec (Shown C) Global)) (old new : Vec (Shown C) Global) → r < length items → old ≡ slice_index_or items r old
-      → RowKeepsCaches stamp (kept_of_row old.items) (kept_of_row new.items) → KeepCaches stamp first (kept_of_rows items) → KeepCaches stamp first (kept_of_rows (slice_set items r new))
-  caches-more stamp r first items old new within here keep so_far =
-      let at = row-read items r old within here in
-      let row : RowKeepsCaches stamp (kept_row (kept_of_rows items) r) (kept_of_row new.items) = subst (λ (ks : List (Kept C)). RowKeepsCaches stamp ks (kept_of_row new.items)) (sym at) keep in
-      let step : KeepCaches stamp (kept_of_rows items) (kept_of_rows (slice_set items r new)) =
-      subst (KeepCaches stamp (kept_of_rows items)) (sym (kept_rows-set items r new)) (rows-set stamp (kept_of_rows items) r (kept_of_row new.items) row) in
-      rows-after stamp first (kept_of_rows items) (kept_of_rows (slice_set items r new)) so_far step
-
-  pub caches-changed : (stamp b r : ℕ) (c : Change) (tag : List ℕ) (first : List (List (Kept C))) (items : List (Vec (Shown C) Global)) (old new : Vec (Shown C) Global) → r < length items → old ≡ slice_index_or items r old
-      → kept_of_row new.items ≡ map (changed_bundle stamp b c tag) (kept_of_row old.items) → KeepCaches stamp first (kept_of_rows items) → KeepCaches stamp first (kept_of_rows (slice_set items r new))
-  caches-changed stamp b r c tag first items old new within here made so_far =
-      caches-more stamp r first items old new within here (subst (RowKeepsCaches stamp (kept_of_row old.items)) (sym made) (row-changed stamp b c tag (kept_of_row old.items))) so_far
-
 -- a member in a row of shown bundles
 module _ {C : Type 0} (capacity stamp b : ℕ) (m : Member) (items : List (Shown C)) where
   -- the bundle that is found accepts the member
@@ -139,11 +96,6 @@ module _ {C : Type 0} (capacity stamp b : ℕ) (m : Member) (items : List (Shown
         ∙ ap (λ (bs : List (List Member)). record { stamp = stamp; bins = bs }) (changed_is ∙ ap (λ (bs : List (List Member)). slice_set bs b (bin_at bs b ++ m ∷ [])) is) in
         ap row_of (map-set kept_of items i new) ∙ place-at stamped_of capacity stamp b m (kept_of_row items) i (kept_of r) (kept_of new) found at to
 
-    pub caches-at : RowKeepsCaches stamp (kept_of_row items) (kept_of_row (slice_set items i new))
-    caches-at =
-        subst (RowKeepsCaches stamp (kept_of_row items)) (sym (map-set kept_of items i new))
-        (row-set stamp (kept_of new) (ap (λ (k : Kept C). k.stamp) new_is, ap (λ (k : Kept C). k.cache) new_is) (kept_of_row items) i)
-
   -- none is found, and a new one is made
   module _ (new : Shown C) (bundle : List (List Member)) (after : List (Shown C)) (e : position_from (λ u. accepts capacity (bin_at (arc_value u.bundle) b) m.tag) 0 items ≡ None)
       (made_is : bundle ≡ slice_set empty_bins b (bin_at empty_bins b ++ m ∷ [])) (new_is : kept_of new ≡ record { stamp = stamp; bins = bundle; cache = None })
@@ -154,7 +106,46 @@ module _ {C : Type 0} (capacity stamp b : ℕ) (m : Member) (items : List (Shown
         let to : stamped_of (kept_of new) ≡ joined stamp b m (fresh stamp) = ap stamped_of new_is ∙ ap (λ (bs : List (List Member)). record { stamp = stamp; bins = bs }) made_is in
         ap (λ (us : List (Shown C)). row_of (kept_of_row us)) after_is ∙ ap row_of (map-append kept_of items (new ∷ [])) ∙ place-none stamped_of capacity stamp b m (kept_of_row items) (kept_of new) found to
 
-    pub caches-none : RowKeepsCaches stamp (kept_of_row items) (kept_of_row after)
-    caches-none =
-        subst (RowKeepsCaches stamp (kept_of_row items)) (sym (ap kept_of_row after_is ∙ map-append kept_of items (new ∷ [])))
-        (row-append stamp (kept_of new) (ap (λ (k : Kept C). k.stamp) new_is, ap (λ (k : Kept C). k.cache) new_is) (kept_of_row items))
+-- a member in the row of a position
+module _ {C : Type 0} (capacity stamp p : ℕ) (m : Member) (items : List (Vec (Shown C) Global)) (v : Vec (Shown C) Global)
+    (within : p / bins_of_row < length items) (here : v ≡ slice_index_or items (p / bins_of_row) v) (us : List (Shown C)) (is_row : us ≡ v.items)
+    (new : Shown C) (bins bundle : List (List Member)) (new_is : kept_of new ≡ record { stamp = stamp; bins = bundle; cache = None }) where
+  bare_new : ((kept_of new).stamp ≡ stamp) × ((kept_of new).cache ≡ None)
+  bare_new = (ap (λ (k : Kept C). k.stamp) new_is, ap (λ (k : Kept C). k.cache) new_is)
+
+  row_is : row_of (kept_row (kept_of_rows items) (p / bins_of_row)) ≡ row_of (kept_of_row us)
+  row_is = ap row_of (row-read items (p / bins_of_row) v within here ∙ ap kept_of_row (sym is_row))
+
+  -- a bundle takes it
+  pub placed-found : (i : ℕ) (r : Shown C) → position_from (λ u. accepts capacity (bin_at (arc_value u.bundle) (p % bins_of_row)) m.tag) 0 us ≡ Some i → r ≡ slice_index_or v.items i r
+      → bins ≡ arc_value r.bundle → bundle ≡ slice_set bins (p % bins_of_row) (bin_at bins (p % bins_of_row) ++ m ∷ [])
+      → (rows : List (List (Kept C))) → rows ≡ slice_set (kept_of_rows items) (p / bins_of_row) (slice_set (kept_row (kept_of_rows items) (p / bins_of_row)) i (kept_of new))
+      → (rows_of rows ≡ placed_at capacity stamp m (rows_of (kept_of_rows items)) p) × KeepCaches stamp (kept_of_rows items) rows
+  placed-found i r e at is changed_is rows is_rows =
+      let q = p / bins_of_row in
+      let all = kept_of_rows items in
+      let row = kept_row all q in
+      let found : r ≡ slice_index_or us i r = at ∙ ap (λ (xs : List (Shown C)). slice_index_or xs i r) (sym is_row) in
+      let fit = fitted-at capacity stamp (p % bins_of_row) m us i r new bins bundle e found is changed_is new_is in
+      let set : slice_set row i (kept_of new) ≡ kept_of_row (slice_set us i new) =
+      ap (λ (ks : List (Kept C)). slice_set ks i (kept_of new)) (row-read items q v within here ∙ ap kept_of_row (sym is_row)) ∙ sym (map-set kept_of us i new) in (
+        ap rows_of is_rows
+            ∙ placed-once capacity stamp p m all (slice_set row i (kept_of new)) (ap row_of set ∙ fit ∙ ap (first_fit capacity stamp (p % bins_of_row) m) (sym row_is)),
+        subst (KeepCaches stamp all) (sym is_rows) (rows-set stamp all q _ (row-set stamp (kept_of new) bare_new row i)),
+      )
+
+  -- a new last bundle takes it
+  pub placed-none : position_from (λ u. accepts capacity (bin_at (arc_value u.bundle) (p % bins_of_row)) m.tag) 0 us ≡ None → bundle ≡ slice_set empty_bins (p % bins_of_row) (bin_at empty_bins (p % bins_of_row) ++ m ∷ [])
+      → (rows : List (List (Kept C))) → rows ≡ slice_set (kept_of_rows items) (p / bins_of_row) (kept_row (kept_of_rows items) (p / bins_of_row) ++ kept_of new ∷ [])
+      → (rows_of rows ≡ placed_at capacity stamp m (rows_of (kept_of_rows items)) p) × KeepCaches stamp (kept_of_rows items) rows
+  placed-none e made_is rows is_rows =
+      let q = p / bins_of_row in
+      let all = kept_of_rows items in
+      let row = kept_row all q in
+      let fit = fitted-none capacity stamp (p % bins_of_row) m us new bundle (us ++ new ∷ []) e made_is new_is refl in
+      let added : row ++ kept_of new ∷ [] ≡ kept_of_row (us ++ new ∷ []) =
+      ap (λ (ks : List (Kept C)). ks ++ kept_of new ∷ []) (row-read items q v within here ∙ ap kept_of_row (sym is_row)) ∙ sym (map-append kept_of us (new ∷ [])) in (
+        ap rows_of is_rows
+            ∙ placed-once capacity stamp p m all (row ++ kept_of new ∷ []) (ap row_of added ∙ fit ∙ ap (first_fit capacity stamp (p % bins_of_row) m) (sym row_is)),
+        subst (KeepCaches stamp all) (sym is_rows) (rows-set stamp all q _ (row-append stamp (kept_of new) bare_new row)),
+      )

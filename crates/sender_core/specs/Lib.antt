@@ -3,6 +3,7 @@ pub mod Kept
 pub mod Shown
 pub mod Answers
 pub mod Changes
+pub mod UndoLogs
 pub mod States
 pub mod Sights
 pub mod Stamps

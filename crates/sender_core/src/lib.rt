@@ -16,6 +16,7 @@ mod state;
 mod task;
 #[cfg(test)]
 mod tests;
+mod undo;
 mod view;
 
 pub use crate::answers::{DropAnswer, Placed, Put, Refusal, RepackAnswer};

@@ -1,14 +1,19 @@
 //! Rows of bundles: first fit of a member, and changes wherever a tag stands.
-ghost use Rattle.std.specs.Prelude.{◌≡◌, ◌≤◌, ◌<◌, ◌+◌, ◌*◌, ℕ, List, [], ◌∷◌, ◌++◌, length, map, IfOk, IfSome, OnOk, IsTrue, None, slice_set};
+//!
+//! Rows are changed in place, and an undo log keeps what stood where they changed. A call that is refused leaves the rows
+//! as they were, and no other bundle is copied.
+ghost use Rattle.std.specs.Prelude.{◌≡◌, ◌≤◌, ◌<◌, ◌+◌, ◌*◌, ℕ, List, [], ◌∷◌, ◌++◌, length, map, IfOk, IfSome, OnOk, OnErr, IsTrue, None, slice_set};
 ghost use Rattle.std.specs.List.{All, fold, position_from, sum};
 ghost use Rattle.std.specs.Option.{option_map};
 ghost use Rattle.std.specs.Arc.{arc_value};
 ghost use Rattle.psi_bundle.specs.Bins.{accepts, holds, bin_at, empty_bins};
-ghost use Rattle.psi_bundle.specs.Versions.{first_fit, placed_at, changed_at, greatest_stamp};
-ghost use Rattle.sender_core.specs.Kept.{row_of, rows_of, bundles_of, kept_at, RowKeepsCaches, KeepCaches};
+ghost use Rattle.psi_bundle.specs.Versions.{placed_at, changed_at, greatest_stamp};
+ghost use Rattle.sender_core.specs.Kept.{row_of, rows_of, bundles_of, kept_row, kept_at, KeepCaches};
 ghost use Rattle.sender_core.specs.Shown.{kept_of, kept_of_row, kept_of_rows};
-ghost use Rattle.sender_core.specs.Changes.{bin_after, changed_bundle, bare_with};
+ghost use Rattle.sender_core.specs.Changes.{bin_after, with_changed, bare_with};
+ghost use Rattle.sender_core.specs.UndoLogs.{LeadsBack, StillLeadsBack};
 
+use crate::undo::{Undo, append, replace, roll_back};
 use item_slots::Tag;
 use psi_bundle::{Bundle, Label, Member, Shown};
 use std::alloc::{AllocError, Global};
@@ -24,6 +29,14 @@ pub(crate) enum Change {
     Relabel { label: Label },
     /// It leaves its bin.
     Remove,
+}
+
+/// A change of a tag's member, and the stamp that a bundle gets where it is made.
+#[derive(Drop)]
+pub(crate) struct Edit {
+    pub(crate) stamp: u64,
+    pub(crate) tag: Tag,
+    pub(crate) change: Change,
 }
 
 // A bundle that was changed: with a new stamp, and without a cache.
@@ -72,20 +85,6 @@ pub(crate) fn same_row<C: Drop>(
     Ok(copy)
 }
 
-// The same rows.
-fn same_rows<C: Drop>(
-    alloc: Global,
-    rows: &[Vec<Shown<C>>],
-) -> Result<Vec<Vec<Shown<C>>>, AllocError>
-    ensures { IfOk result (λ same. kept_of_rows same.items ≡ kept_of_rows rows.now) }
-{
-    let mut copy = Vec::with_capacity(alloc, rows.len())?;
-    for row in rows {
-        copy.push(same_row(alloc, row)?)?;
-    }
-    Ok(copy)
-}
-
 // The first bundle of the row that accepts the tag in the bin.
 fn accepting<C>(row: &[Shown<C>], bin: u16, tag: &Tag, capacity: u16) -> Option<usize>
     requires { bin < 819 }
@@ -109,146 +108,186 @@ fn with_first(alloc: Global, bin: u16, member: Member, capacity: u16) -> Result<
     empty.add(alloc, bin, member, capacity)
 }
 
-// Puts a member into a row by first fit.
-fn place<C: Drop>(
+// Puts a member into the row of a position by first fit.
+fn place_at<C: Drop>(
     alloc: Global,
-    row: &mut Vec<Shown<C>>,
+    rows: &mut Vec<Vec<Shown<C>>>,
+    log: &mut Vec<Undo<C>>,
     stamp: u64,
-    bin: u16,
+    p: u16,
     member: &Member,
     capacity: u16,
 ) -> Result<(), AllocError>
-    requires in_range { bin < 819 }
+    requires within { p < 819 * length rows.old.items }
     requires some { 1 ≤ capacity }
-    ensures fitted { OnOk result (row_of (kept_of_row row.new.items) ≡ first_fit capacity stamp bin member.now (row_of (kept_of_row row.old.items))) }
-    ensures caches { OnOk result (RowKeepsCaches stamp (kept_of_row row.old.items) (kept_of_row row.new.items)) }
+    ensures fitted { OnOk result (rows_of (kept_of_rows rows.new.items) ≡ placed_at capacity stamp member.now (rows_of (kept_of_rows rows.old.items)) p) }
+    ensures caches { OnOk result (KeepCaches stamp (kept_of_rows rows.old.items) (kept_of_rows rows.new.items)) }
+    ensures rows { length rows.new.items ≡ length rows.old.items }
+    ensures back { StillLeadsBack log.old.items (kept_of_rows rows.old.items) log.new.items (kept_of_rows rows.new.items) }
 {
+    let (row, bin) = ((p / BINS) as usize, p % BINS);
     let Member { tag, label } = *member;
-    match accepting(row, bin, &tag, capacity) {
-        Some(i) => {
-            let bundle = row[i]
-                .bundle
-                .add(alloc, bin, Member { tag, label }, capacity)?;
+    let bundles = &rows[row];
+    match accepting(bundles, bin, &tag, capacity) {
+        Some(index) => {
+            let old = &bundles[index].bundle;
+            let bundle = old.add(alloc, bin, Member { tag, label }, capacity)?;
             let shown = bare(alloc, stamp, bundle)?;
-            row[i] = shown;
+            replace(rows, log, row, index, shown)
         }
         None => {
             let bundle = with_first(alloc, bin, Member { tag, label }, capacity)?;
             let shown = bare(alloc, stamp, bundle)?;
-            row.push(shown)?;
+            append(rows, log, row, shown)
         }
     }
-    Ok(())
 }
 
-/// The rows with the member at each of its positions, by first fit.
-pub(crate) fn placed<C: Drop>(
+// Puts a member into the row of each position by first fit.
+fn place_each<C: Drop>(
     alloc: Global,
-    rows: &[Vec<Shown<C>>],
+    rows: &mut Vec<Vec<Shown<C>>>,
+    log: &mut Vec<Undo<C>>,
     stamp: u64,
     places: &[u16],
     member: &Member,
     capacity: u16,
-) -> Result<Vec<Vec<Shown<C>>>, AllocError>
-    requires within { All (λ p. p < 819 * length rows.now) places.now }
+) -> Result<(), AllocError>
+    requires within { All (λ p. p < 819 * length rows.old.items) places.now }
     requires some { 1 ≤ capacity }
-    ensures fitted { IfOk result (λ placed. rows_of (kept_of_rows placed.items) ≡ fold (placed_at capacity stamp member.now) (rows_of (kept_of_rows rows.now)) places.now) }
-    ensures caches { IfOk result (λ placed. KeepCaches stamp (kept_of_rows rows.now) (kept_of_rows placed.items)) }
+    ensures fitted { OnOk result (rows_of (kept_of_rows rows.new.items) ≡ fold (placed_at capacity stamp member.now) (rows_of (kept_of_rows rows.old.items)) places.now) }
+    ensures caches { OnOk result (KeepCaches stamp (kept_of_rows rows.old.items) (kept_of_rows rows.new.items)) }
+    ensures back { StillLeadsBack log.old.items (kept_of_rows rows.old.items) log.new.items (kept_of_rows rows.new.items) }
 {
-    let mut placed = same_rows(alloc, rows)?;
     for p in places {
-        place(
-            alloc,
-            &mut placed[(*p / BINS) as usize],
-            stamp,
-            *p % BINS,
-            member,
-            capacity,
-        )?;
+        place_at(alloc, rows, log, stamp, *p, member, capacity)?;
     }
-    Ok(placed)
+    Ok(())
+}
+
+/// Puts the member at each of its positions, by first fit, and gives what undoes it. Where there is no memory the rows
+/// are as before.
+pub(crate) fn place_member<C: Drop>(
+    alloc: Global,
+    rows: &mut Vec<Vec<Shown<C>>>,
+    stamp: u64,
+    places: &[u16],
+    member: &Member,
+    capacity: u16,
+) -> Result<Vec<Undo<C>>, AllocError>
+    requires within { All (λ p. p < 819 * length rows.old.items) places.now }
+    requires some { 1 ≤ capacity }
+    ensures fitted { OnOk result (rows_of (kept_of_rows rows.new.items) ≡ fold (placed_at capacity stamp member.now) (rows_of (kept_of_rows rows.old.items)) places.now) }
+    ensures caches { OnOk result (KeepCaches stamp (kept_of_rows rows.old.items) (kept_of_rows rows.new.items)) }
+    ensures back { IfOk result (λ log. LeadsBack log.items (kept_of_rows rows.new.items) (kept_of_rows rows.old.items)) }
+    ensures kept { OnErr result (kept_of_rows rows.new.items ≡ kept_of_rows rows.old.items) }
+{
+    let mut log = Vec::new(alloc);
+    if let Err(fault) = place_each(alloc, rows, &mut log, stamp, places, member, capacity) {
+        roll_back(rows, log);
+        return Err(fault);
+    }
+    Ok(log)
 }
 
 // The bundle after the change in a bin that holds the tag.
-fn edited(
-    alloc: Global,
-    bundle: &Bundle,
-    bin: u16,
-    tag: &Tag,
-    change: &Change,
-) -> Result<Bundle, AllocError>
+fn edited(alloc: Global, bundle: &Bundle, bin: u16, edit: &Edit) -> Result<Bundle, AllocError>
     requires in_range { bin < 819 }
-    requires held { IsTrue (holds (bin_at bundle.now bin) tag.now) }
-    ensures { IfOk result (λ edited. edited ≡ slice_set bundle.now bin (bin_after change.now tag.now (bin_at bundle.now bin))) }
+    requires held { IsTrue (holds (bin_at bundle.now bin) edit.now.tag) }
+    ensures { IfOk result (λ edited. edited ≡ slice_set bundle.now bin (bin_after edit.now.change edit.now.tag (bin_at bundle.now bin))) }
 {
-    match change {
-        Change::Relabel { label } => bundle.relabel(alloc, bin, tag, *label),
-        Change::Remove => bundle.remove(alloc, bin, tag),
+    match edit.change {
+        Change::Relabel { label } => bundle.relabel(alloc, bin, &edit.tag, label),
+        Change::Remove => bundle.remove(alloc, bin, &edit.tag),
     }
 }
 
-// The bundle after the change, where its bin holds the tag, and else as it is.
-fn changed_shown<C: Drop>(
+// Changes one bundle of a row, where its bin holds the tag.
+fn change_bundle<C: Drop>(
     alloc: Global,
-    shown: &Shown<C>,
-    stamp: u64,
+    rows: &mut Vec<Vec<Shown<C>>>,
+    log: &mut Vec<Undo<C>>,
+    row: usize,
+    index: usize,
     bin: u16,
-    tag: &Tag,
-    change: &Change,
-) -> Result<Shown<C>, AllocError>
-    requires { bin < 819 }
-    ensures { IfOk result (λ changed. kept_of changed ≡ changed_bundle stamp bin change.now tag.now (kept_of shown.now)) }
+    edit: &Edit,
+) -> Result<(), AllocError>
+    requires row { row < length rows.old.items }
+    requires index { index < length (kept_row (kept_of_rows rows.old.items) row) }
+    requires bin { bin < 819 }
+    ensures made { OnOk result (kept_of_rows rows.new.items ≡ with_changed edit.now.stamp bin edit.now.change edit.now.tag (kept_of_rows rows.old.items) row index) }
+    ensures rows { length rows.new.items ≡ length rows.old.items }
+    ensures back { StillLeadsBack log.old.items (kept_of_rows rows.old.items) log.new.items (kept_of_rows rows.new.items) }
 {
-    if shown.bundle.holds(bin, tag) {
-        bare(
-            alloc,
-            stamp,
-            edited(alloc, &shown.bundle, bin, tag, change)?,
-        )
-    } else {
-        same(shown)
+    let old = &rows[row][index].bundle;
+    if !old.holds(bin, &edit.tag) {
+        return Ok(());
     }
+    let bundle = edited(alloc, old, bin, edit)?;
+    let shown = bare(alloc, edit.stamp, bundle)?;
+    replace(rows, log, row, index, shown)
 }
 
-// The row after the change in each bundle whose bin holds the tag.
-fn changed_row<C: Drop>(
+// Changes each bundle of a position's row whose bin holds the tag.
+fn change_at<C: Drop>(
     alloc: Global,
-    row: &[Shown<C>],
-    stamp: u64,
-    bin: u16,
-    tag: &Tag,
-    change: &Change,
-) -> Result<Vec<Shown<C>>, AllocError>
-    requires { bin < 819 }
-    ensures { IfOk result (λ changed. kept_of_row changed.items ≡ map (changed_bundle stamp bin change.now tag.now) (kept_of_row row.now)) }
+    rows: &mut Vec<Vec<Shown<C>>>,
+    log: &mut Vec<Undo<C>>,
+    p: u16,
+    edit: &Edit,
+) -> Result<(), AllocError>
+    requires { p < 819 * length rows.old.items }
+    ensures made { OnOk result (rows_of (kept_of_rows rows.new.items) ≡ changed_at edit.now.stamp (bin_after edit.now.change edit.now.tag) edit.now.tag (rows_of (kept_of_rows rows.old.items)) p) }
+    ensures caches { OnOk result (KeepCaches edit.now.stamp (kept_of_rows rows.old.items) (kept_of_rows rows.new.items)) }
+    ensures rows { length rows.new.items ≡ length rows.old.items }
+    ensures back { StillLeadsBack log.old.items (kept_of_rows rows.old.items) log.new.items (kept_of_rows rows.new.items) }
 {
-    let mut changed = Vec::with_capacity(alloc, row.len())?;
-    for shown in row {
-        changed.push(changed_shown(alloc, shown, stamp, bin, tag, change)?)?;
+    let (row, bin) = ((p / BINS) as usize, p % BINS);
+    for index in 0..rows[row].len() {
+        change_bundle(alloc, rows, log, row, index, bin, edit)?;
     }
-    Ok(changed)
+    Ok(())
 }
 
-/// The rows after the change at each of the tag's positions whose bin holds it.
-pub(crate) fn changed<C: Drop>(
+// Makes the change at each of the tag's positions.
+fn change_each<C: Drop>(
     alloc: Global,
-    rows: &[Vec<Shown<C>>],
-    stamp: u64,
+    rows: &mut Vec<Vec<Shown<C>>>,
+    log: &mut Vec<Undo<C>>,
     places: &[u16],
-    tag: &Tag,
-    change: &Change,
-) -> Result<Vec<Vec<Shown<C>>>, AllocError>
-    requires { All (λ p. p < 819 * length rows.now) places.now }
-    ensures made { IfOk result (λ changed. rows_of (kept_of_rows changed.items) ≡ fold (changed_at stamp (bin_after change.now tag.now) tag.now) (rows_of (kept_of_rows rows.now)) places.now) }
-    ensures caches { IfOk result (λ changed. KeepCaches stamp (kept_of_rows rows.now) (kept_of_rows changed.items)) }
+    edit: &Edit,
+) -> Result<(), AllocError>
+    requires { All (λ p. p < 819 * length rows.old.items) places.now }
+    ensures made { OnOk result (rows_of (kept_of_rows rows.new.items) ≡ fold (changed_at edit.now.stamp (bin_after edit.now.change edit.now.tag) edit.now.tag) (rows_of (kept_of_rows rows.old.items)) places.now) }
+    ensures caches { OnOk result (KeepCaches edit.now.stamp (kept_of_rows rows.old.items) (kept_of_rows rows.new.items)) }
+    ensures back { StillLeadsBack log.old.items (kept_of_rows rows.old.items) log.new.items (kept_of_rows rows.new.items) }
 {
-    let mut changed = same_rows(alloc, rows)?;
     for p in places {
-        let row = (*p / BINS) as usize;
-        let after = changed_row(alloc, &changed[row], stamp, *p % BINS, tag, change)?;
-        changed[row] = after;
+        change_at(alloc, rows, log, *p, edit)?;
     }
-    Ok(changed)
+    Ok(())
+}
+
+/// Makes the change at each of the tag's positions, wherever a bin holds the tag, and gives what undoes it. Where there is
+/// no memory the rows are as before.
+pub(crate) fn change_member<C: Drop>(
+    alloc: Global,
+    rows: &mut Vec<Vec<Shown<C>>>,
+    places: &[u16],
+    edit: &Edit,
+) -> Result<Vec<Undo<C>>, AllocError>
+    requires { All (λ p. p < 819 * length rows.old.items) places.now }
+    ensures made { OnOk result (rows_of (kept_of_rows rows.new.items) ≡ fold (changed_at edit.now.stamp (bin_after edit.now.change edit.now.tag) edit.now.tag) (rows_of (kept_of_rows rows.old.items)) places.now) }
+    ensures caches { OnOk result (KeepCaches edit.now.stamp (kept_of_rows rows.old.items) (kept_of_rows rows.new.items)) }
+    ensures back { IfOk result (λ log. LeadsBack log.items (kept_of_rows rows.new.items) (kept_of_rows rows.old.items)) }
+    ensures kept { OnErr result (kept_of_rows rows.new.items ≡ kept_of_rows rows.old.items) }
+{
+    let mut log = Vec::new(alloc);
+    if let Err(fault) = change_each(alloc, rows, &mut log, places, edit) {
+        roll_back(rows, log);
+        return Err(fault);
+    }
+    Ok(log)
 }
 
 /// The number of bundles of all rows.

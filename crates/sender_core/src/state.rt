@@ -5,8 +5,9 @@ ghost use Rattle.sender_core.specs.Shown.{kept_of_rows};
 use crate::answers::{DropAnswer, ENTRIES, Put, RepackAnswer};
 use crate::install::Install;
 use crate::receipt::{Now, Receipt};
-use crate::rows::{Change, bundles, changed, newest, placed, put_cache, stamped};
+use crate::rows::{Change, Edit, bundles, change_member, newest, place_member, put_cache, stamped};
 use crate::task::Task;
+use crate::undo::{Undo, roll_back};
 use item_slots::{Tag, positions};
 use noise_ledger::Params;
 use psi_bundle::{Answer, Bundle, Call, Entry, Label, Member, Shown};
@@ -50,6 +51,7 @@ impl<C: Drop> State<C> {
     ghost use Rattle.sender_core.specs.Installs.{installed, install_answer};
     ghost use Rattle.sender_core.specs.States.{contents_of, IsEntered};
     ghost use Rattle.sender_core.specs.Shown.{kept_of_row, kept_of_rows};
+    ghost use Rattle.sender_core.specs.UndoLogs.{rolled_back, CanRollBack};
     ghost use Rattle.psi_bundle.specs.declared.history.Answer.TheVariants.{Removed, Seen};
     ghost use Rattle.sender_core.specs.Answers.{answer_of_put, answer_of_drop, answer_of_repack, LeavesBare};
 
@@ -102,17 +104,15 @@ impl<C: Drop> State<C> {
         ensures stepped { IfOk result (λ put. IsStep (contents_of self.old) (contents_of self.new) (Call.Put tag label) (answer_of_put put)) }
         ensures kept { OnErr result (IsAsBefore (contents_of self.old) (contents_of self.new)) }
     {
+        self.journal.reserve(1)?;
         let places = positions(&tag, self.params.rows);
-        let change = Change::Relabel { label };
-        let rows = changed(
-            alloc,
-            &self.rows,
-            self.count() + 1,
-            places.list(),
-            &tag,
-            &change,
-        )?;
-        self.enter(tag, label, rows, Answer::Replaced)?;
+        let edit = Edit {
+            stamp: self.count() + 1,
+            tag,
+            change: Change::Relabel { label },
+        };
+        let log = change_member(alloc, &mut self.rows, places.list(), &edit)?;
+        self.enter(tag, label, log, Answer::Replaced)?;
         Ok(Put::Replaced)
     }
 
@@ -123,22 +123,25 @@ impl<C: Drop> State<C> {
         ensures stepped { IfOk result (λ put. IsStep (contents_of self.old) (contents_of self.new) (Call.Put tag label) (answer_of_put put)) }
         ensures kept { OnErr result (IsAsBefore (contents_of self.old) (contents_of self.new)) }
     {
+        self.journal.reserve(1)?;
+        let stamp = self.count() + 1;
         let places = positions(&tag, self.params.rows);
-        let rows = placed(
+        let log = place_member(
             alloc,
-            &self.rows,
-            self.count() + 1,
+            &mut self.rows,
+            stamp,
             places.list(),
             &Member { tag, label },
             self.params.capacity,
         )?;
-        let planes = bundles(&rows) * (1 + u32::from(self.params.units));
+        let planes = bundles(&self.rows) * (1 + u32::from(self.params.units));
         let cells = planes * (u32::from(self.params.capacity) + 1);
         if planes <= PLANES && cells <= CELLS {
-            self.enter(tag, label, rows, Answer::Added)?;
+            self.enter(tag, label, log, Answer::Added)?;
             Ok(Put::Added)
         } else {
-            self.note(Call::Put { tag, label }, Answer::Full { planes, cells })?;
+            roll_back(&mut self.rows, log);
+            self.write(Call::Put { tag, label }, Answer::Full { planes, cells });
             Ok(Put::Full { planes, cells })
         }
     }
@@ -173,16 +176,17 @@ impl<C: Drop> State<C> {
         ensures stepped { OnOk result (IsStep (contents_of self.old) (contents_of self.new) (Call.Drop tag) Removed) }
         ensures kept { OnErr result (IsAsBefore (contents_of self.old) (contents_of self.new)) }
     {
+        self.journal.reserve(1)?;
         let places = positions(&tag, self.params.rows);
-        let rows = changed(
-            alloc,
-            &self.rows,
-            self.count() + 1,
-            places.list(),
-            &tag,
-            &Change::Remove,
-        )?;
-        self.leave(tag, rows)
+        let edit = Edit {
+            stamp: self.count() + 1,
+            tag,
+            change: Change::Remove,
+        };
+        let _log = change_member(alloc, &mut self.rows, places.list(), &edit)?;
+        self.labels.remove(&tag);
+        self.write(Call::Drop { tag }, Answer::Removed);
+        Ok(())
     }
 
     // Adds the entry of a call that changes nothing.
@@ -194,41 +198,36 @@ impl<C: Drop> State<C> {
         Ok(())
     }
 
-    // Adds the entry of a Put, with the tag's label in the map and other rows.
+    // Adds an entry, for which there is room.
+    fn write(&mut self, call: Call, answer: Answer)
+        requires { 1 ≤ (contents_of self.old).room }
+        ensures { IsEntered (contents_of self.old) (contents_of self.new) (version_of (contents_of self.old)).labels (contents_of self.old).rows (record { call = call; answer = answer }) }
+    {
+        self.journal.push_reserved(Entry { call, answer });
+    }
+
+    // Adds the entry of a Put, for which there is room, with the tag's label in the map. The rows are changed already; where
+    // there is no memory the log undoes that.
     fn enter(
         &mut self,
         tag: Tag,
         label: Label,
-        rows: Vec<Vec<Shown<C>>>,
+        log: Vec<Undo<C>>,
         answer: Answer,
     ) -> Result<(), AllocError>
-        ensures entered { OnOk result (IsEntered (contents_of self.old) (contents_of self.new) (fin.insert (version_of (contents_of self.old)).labels tag label) (kept_of_rows rows.items) (record { call = Call.Put tag label; answer = answer })) }
-        ensures kept { OnErr result (IsAsBefore (contents_of self.old) (contents_of self.new)) }
+        requires room { 1 ≤ (contents_of self.old).room }
+        requires can { CanRollBack log.items (contents_of self.old).rows }
+        ensures entered { OnOk result (IsEntered (contents_of self.old) (contents_of self.new) (fin.insert (version_of (contents_of self.old)).labels tag label) (contents_of self.old).rows (record { call = Call.Put tag label; answer = answer })) }
+        ensures undone { OnErr result (contents_of self.new ≡ record (contents_of self.old) { rows = rolled_back log.items (contents_of self.old).rows }) }
     {
-        self.journal.reserve(1)?;
-        self.labels.insert(tag, label)?;
-        self.rows = rows;
-        self.journal.push_reserved(Entry {
-            call: Call::Put { tag, label },
-            answer,
-        });
+        if let Err(refused) = self.labels.insert(tag, label) {
+            roll_back(&mut self.rows, log);
+            return Err(refused.into());
+        }
+        self.write(Call::Put { tag, label }, answer);
         Ok(())
     }
 
-    // Adds the entry of a Drop that takes the tag out of the map, with other rows.
-    fn leave(&mut self, tag: Tag, others: Vec<Vec<Shown<C>>>) -> Result<(), AllocError>
-        ensures left { OnOk result (IsEntered (contents_of self.old) (contents_of self.new) (fin.remove (version_of (contents_of self.old)).labels tag) (kept_of_rows others.items) (record { call = Call.Drop tag; answer = Removed })) }
-        ensures kept { OnErr result (IsAsBefore (contents_of self.old) (contents_of self.new)) }
-    {
-        self.journal.reserve(1)?;
-        self.labels.remove(&tag);
-        self.rows = others;
-        self.journal.push_reserved(Entry {
-            call: Call::Drop { tag },
-            answer: Answer::Removed,
-        });
-        Ok(())
-    }
     /// Packs a row anew, unless it has a stamp above `from` or no bundles.
     pub(crate) fn repack(
         &mut self,

@@ -1,12 +1,23 @@
-use Rattle.std.proofs.Common.{◌∙◌, ap}
-use Rattle.std.proofs.lemmas.Result.{on_ok_weaker}
+use Rattle.std.proofs.Common.{◌∙◌, ap, refl, length, List}
+use Rattle.std.specs.FinMap as fin
+use Rattle.psi_bundle.specs.declared.history.Entry.{Entry}
+use Rattle.psi_bundle.specs.declared.history.Call.TheVariants as Call
+use Rattle.psi_bundle.specs.declared.history.Answer.TheVariants.{Removed}
+use Rattle.sender_core.specs.Kept.{version_of}
 use Rattle.sender_core.specs.States.{contents_of}
 use Rattle.sender_core.specs.Shown.{kept_of_rows}
-use Rattle.sender_core.proofs.Entering.{removed-by}
+use Rattle.sender_core.proofs.TagMaps.{one_taken}
+use Rattle.sender_core.proofs.Entering.{entered-after, removed-by}
 use Rattle.sender_core.proofs.state.State.remove.Goals as goal
 
 pub returns-clause-stepped : goal.returns-clause-stepped
 returns-clause-stepped g c =
-    on_ok_weaker c.leave.result (removed-by (contents_of c.args.self.now) (contents_of c.leave.new.self) c.count.result (kept_of_rows c.deref.result.now) (kept_of_rows c.in_ok-rows.rows.items) c.list.result.now c.args.tag
-    c.count.ensures (ap kept_of_rows c.deref.ensures.value) (c.list.ensures.listed ∙ c.positions-places.ensures.listed) c.in_ok-rows.ensures.caches
-    c.requires.present c.in_ok-rows.ensures.made) c.leave.ensures.left
+    let old = contents_of c.args.self.now in
+    let new = contents_of c.write.new.self in
+    let rows = kept_of_rows c.change_member.new.rows.items in
+    let labels = fin.remove (version_of old).labels c.args.tag in
+    let e : Entry = record { call = Call.Drop c.args.tag; answer = Removed } in
+    let taken = one_taken c.args.self.now.labels.entries c.remove.new.self.entries c.args.tag (λ q. c.remove.ensures.updates.0 q) in
+    let entered = entered-after old new (contents_of (record c.args.self.now { rows = c.change_member.new.rows; journal = c.reserve.new.self; labels = c.remove.new.self })) _ labels rows e refl refl c.reserve.ensures.items taken c.write.ensures in
+    removed-by old new c.count.result old.rows rows c.list.result.now c.args.tag (c.count.ensures ∙ ap (λ (es : List Entry). length es) c.reserve.ensures.items) refl (c.list.ensures.listed ∙ c.positions-places.ensures.listed)
+    c.in_ok-_log.ensures.caches c.requires.present c.in_ok-_log.ensures.made entered
