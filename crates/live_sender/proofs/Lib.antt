@@ -1,0 +1,4 @@
+pub mod Books
+pub mod Trying
+pub mod Going
+mod Samples

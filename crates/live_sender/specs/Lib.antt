@@ -1,0 +1,4 @@
+pub mod Histories
+pub mod Acts
+pub mod Turns
+pub mod Tries
