@@ -1,0 +1,4 @@
+pub mod Rounds
+pub mod Caching
+pub mod Alone
+pub mod Tried

@@ -1,0 +1,170 @@
+//! Rounds on an empty set of one row, with bins of one member and no labels.
+ghost use Rattle.std.specs.Prelude.{◌≤◌, IfSome};
+ghost use Rattle.psi_frames.specs.Requests.{IsFit};
+ghost use Rattle.query_pool.specs.Tried.{smallest};
+
+use crate::round_alone;
+use item_slots::tag_of;
+use noise_ledger::{Params, check};
+use psi_bundle::Label;
+use psi_frames::{Reply, Request};
+use query_codec::{Ciphertext, Ciphertexts};
+use sender_core::Book;
+use std::alloc::Global;
+use std::thread::Threads;
+
+// What a reply tells; of a body its length.
+#[derive(Clone, Copy, Debug, PartialEq, Eq)]
+enum Told {
+    Added(u64),
+    Absent(u64),
+    Answer(u64, usize),
+    Repacked {
+        place: u64,
+        from: u64,
+        before: u16,
+        after: u16,
+    },
+    Refused(u8),
+    Other,
+}
+
+fn what_is_told(reply: &Reply) -> Told {
+    match reply {
+        Reply::Added { place } => Told::Added(*place),
+        Reply::Absent { place } => Told::Absent(*place),
+        Reply::Answer { place, body } => Told::Answer(*place, body.items().len()),
+        Reply::Repacked {
+            place,
+            from,
+            before,
+            after,
+        } => Told::Repacked {
+            place: *place,
+            from: *from,
+            before: *before,
+            after: *after,
+        },
+        Reply::Refused { code } => Told::Refused(*code),
+        _ => Told::Other,
+    }
+}
+
+// A Put of `abc`.
+fn put() -> Option<Request>
+    ensures { IfSome result (IsFit smallest) }
+{
+    let label = Label::of(b"")?;
+    Some(Request::Put {
+        session: 1,
+        number: 1,
+        tag: tag_of(b"abc"),
+        label,
+    })
+}
+
+// A Drop of `abc`.
+fn drop_item() -> Request
+    ensures { IsFit smallest result }
+{
+    Request::Drop {
+        session: 1,
+        number: 2,
+        tag: tag_of(b"abc"),
+    }
+}
+
+// An Ask with the zero query.
+fn ask(alloc: Global) -> Option<Request>
+    ensures { IfSome result (IsFit smallest) }
+{
+    let ct = Ciphertext::zero(alloc).ok()?;
+    let query = Ciphertexts::of(vec![in alloc; ct].ok()?);
+    Some(Request::Ask {
+        session: 2,
+        number: 3,
+        query,
+    })
+}
+
+fn repack() -> Request
+    ensures { IsFit smallest result }
+{
+    Request::Repack {
+        session: 3,
+        number: 4,
+        row: 0,
+    }
+}
+
+fn bad(code: u8) -> Request
+    requires some { 1 ≤ code }
+    requires few { code ≤ 6 }
+    ensures { IsFit smallest result }
+{
+    Request::Bad {
+        session: 3,
+        number: 5,
+        code,
+    }
+}
+
+// What the replies to a round of two requests tell.
+fn two<R: Threads + Sync>(
+    rt: &R,
+    alloc: Global,
+    first: Request,
+    second: Request,
+) -> Option<[Told; 2]>
+    requires first { IsFit smallest first }
+    requires second { IsFit smallest second }
+{
+    let params = Params::of(1, 1, 0);
+    if check(&params).is_err() {
+        return None;
+    }
+    let book = Book::open(alloc, &params).ok()?;
+    let requests = vec![in alloc; first, second].ok()?;
+    let round = round_alone(rt, alloc, &params, book, requests).ok()?;
+    Some([
+        what_is_told(&round.replies[0]),
+        what_is_told(&round.replies[1]),
+    ])
+}
+
+#[test]
+fn rounds_of_one_lane(rt: HostRuntime) {
+    let alloc = rt.alloc();
+    let request = put().expect(&rt, "label");
+    let packed = Told::Repacked {
+        place: 1,
+        from: 1,
+        before: 1,
+        after: 1,
+    };
+    assert_eq!(rt;
+        two(&rt, alloc, request, repack()),
+        Some([Told::Added(0), packed])
+    );
+    let packed = Told::Repacked {
+        place: 0,
+        from: 0,
+        before: 0,
+        after: 0,
+    };
+    assert_eq!(rt;
+        two(&rt, alloc, repack(), bad(5)),
+        Some([packed, Told::Refused(5)])
+    );
+    let request = ask(alloc).expect(&rt, "memory");
+    assert_eq!(rt;
+        two(&rt, alloc, drop_item(), request),
+        Some([Told::Absent(0), Told::Answer(1, 10)])
+    );
+    let request = put().expect(&rt, "label");
+    let query = ask(alloc).expect(&rt, "memory");
+    assert_eq!(rt;
+        two(&rt, alloc, request, query),
+        Some([Told::Added(0), Told::Answer(1, 81930)])
+    );
+}
