@@ -1,0 +1,12 @@
+pub mod Renumbered
+pub mod Places
+pub mod Pairs
+pub mod Joins
+pub mod Sending
+pub mod OneRound
+pub mod Fewer
+pub mod Going
+pub mod Pieces
+pub mod Leaving
+pub mod LaneRounds
+pub mod Once

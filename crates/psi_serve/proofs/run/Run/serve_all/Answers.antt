@@ -1,0 +1,84 @@
+use Rattle.std.proofs.Common.{◌∙◌, ◌++◌, length-append, take, arith, refl}
+use Rattle.std.proofs.KnownBytes.{Consumes-kept, Consumes-trans}
+use Rattle.std.proofs.lemmas.Result.{err_from_is_err_and}
+use Rattle.noise_ledger.specs.Verdicts.{parameters_of}
+use Rattle.psi_serve.proofs.Leaving.{at-read_fault, end-consumed, end-left, end-told, leaves-end, leaves-last, leaves-new, leaves-piece, new-hears, rose_from}
+use Rattle.psi_serve.proofs.run.Run.serve_all.Goals as goal
+
+pub returns-in_err-feed : goal.returns-in_err-feed
+returns-in_err-feed g c =
+    let exit = err_from_is_err_and c.from_residual.result c.from_residual.ensures.1 in
+    rw (exit.1, exit.2) (leaves-new (parameters_of c.args.params.now) _ _ c.requires.begins)
+
+pub loop-self-init : goal.loop-self-init
+loop-self-init g c = record {
+  hearing = new-hears (parameters_of c.args.params.now) _ _ _ c.requires.begins c.in_ok-feed.ensures.fed c.in_ok-feed.ensures.requests;
+  under = c.requires.under;
+  alone = refl;
+}
+
+pub loop-self-preserved : goal.loop-self-preserved
+loop-self-preserved g c =
+    let h = c.loop-self.invariant.hearing in
+    let piece = take c.in-Ok.count c.read.new.buf in
+    let left = c.in_ok-room-in-Ok.ensures.left in
+    record {
+      hearing = record {
+        bytes = h.bytes ++ piece;
+        stands = c.in_ok-room-in-Ok.ensures.goes _ h.bytes h.stands h.room_is;
+        room_is = omega (arith, left, h.room_is, length-append h.bytes piece);
+        none_ready = c.in_ok-room-in-Ok.ensures.taken;
+        faultless = c.in_ok-room-in-Ok.ensures.faultless;
+        consumed = Consumes-trans _ _ _ h.bytes piece h.consumed c.in-Ok.ensures.bytes.0;
+        no_read_failed = c.in-Ok.ensures.cause.kept ∙ h.no_read_failed;
+      };
+      under = c.take_piece.ensures.under;
+      alone = c.take_piece.ensures.alone ∙ c.loop-self.invariant.alone;
+    }
+
+pub returns-in_err-last_round-in-Ok-eq0 : goal.returns-in_err-last_round-in-Ok-eq0
+returns-in_err-last_round-in-Ok-eq0 g c =
+    let h = c.loop-self.invariant.hearing in
+    let exit = err_from_is_err_and c.from_residual-in_err-last_round-in-Ok-eq0.result c.from_residual-in_err-last_round-in-Ok-eq0.ensures.1 in
+    rw (exit.1, exit.2)
+    (leaves-last (parameters_of c.args.params.now) _ _ _ c.loop-self.feed h.bytes _ (c.last_round.ensures.alone ∙ c.loop-self.invariant.alone)
+    (end-consumed _ _ _ h.bytes _ c.read.new.buf c.in-Ok-eq0.field-0-test h.consumed c.in-Ok-eq0.ensures.bytes.0) _
+    (c.in_err-last_round-in-Ok-eq0.ensures.stops _ h.bytes c.loop-self.feed h.none_ready h.stands))
+
+pub returns-in-Ok-eq0 : goal.returns-in-Ok-eq0
+returns-in-Ok-eq0 g c =
+    let h = c.loop-self.invariant.hearing in
+    let none = c.in-Ok-eq0.field-0-test in
+    let last = c.in-Ok-eq0.ensures.bytes.0 in
+    leaves-end (parameters_of c.args.params.now) _ _ _ c.loop-self.feed h.bytes _ c.end.result (c.last_round.ensures.alone ∙ c.loop-self.invariant.alone)
+    (c.in_ok-last_round-in-Ok-eq0.ensures.all _ h.bytes c.loop-self.feed h.none_ready h.stands)
+    (end-told _ _ _ h.bytes _ c.read.new.buf none h.consumed last c.in-Ok-eq0.ensures.end)
+    (end-left _ _ _ h.bytes _ c.read.new.buf none h.consumed last c.in-Ok-eq0.ensures.end)
+    (c.in-Ok-eq0.ensures.cause.kept ∙ h.no_read_failed) c.end.ensures.ok c.end.ensures.err
+
+pub returns-in_err-room-in-Ok : goal.returns-in_err-room-in-Ok
+returns-in_err-room-in-Ok g c =
+    let h = c.loop-self.invariant.hearing in
+    let piece = take c.in-Ok.count c.read.new.buf in
+    let exit = err_from_is_err_and c.from_residual-in_err-room-in-Ok.result c.from_residual-in_err-room-in-Ok.ensures.1 in
+    rw (exit.1, exit.2)
+    (leaves-piece (parameters_of c.args.params.now) _ _ _ c.take_piece.new.feed h.bytes piece c.loop-self.room _ (c.take_piece.ensures.alone ∙ c.loop-self.invariant.alone) h.room_is
+    (Consumes-trans _ _ _ h.bytes piece h.consumed c.in-Ok.ensures.bytes.0) (c.in-Ok.ensures.cause.kept ∙ h.no_read_failed) _
+    (c.in_err-room-in-Ok.ensures.stops _ h.bytes h.stands h.room_is))
+
+pub returns-in_err-last_round-in-Err : goal.returns-in_err-last_round-in-Err
+returns-in_err-last_round-in-Err g c =
+    let h = c.loop-self.invariant.hearing in
+    let exit = err_from_is_err_and c.from_residual-in_err-last_round-in-Err.result c.from_residual-in_err-last_round-in-Err.ensures.1 in
+    rw (exit.1, exit.2)
+    (leaves-last (parameters_of c.args.params.now) _ _ _ c.loop-self.feed h.bytes _ (c.last_round-in-Err.ensures.alone ∙ c.loop-self.invariant.alone)
+    (Consumes-kept _ _ _ h.bytes h.consumed c.in-Err.ensures.refused) _
+    (c.in_err-last_round-in-Err.ensures.stops _ h.bytes c.loop-self.feed h.none_ready h.stands))
+
+pub returns-in-Err : goal.returns-in-Err
+returns-in-Err g c =
+    let h = c.loop-self.invariant.hearing in
+    λ served entries replies.
+    at-read_fault (parameters_of c.args.params.now) _ _ _ c.loop-self.feed h.bytes _ served (c.last_round-in-Err.ensures.alone ∙ c.loop-self.invariant.alone) entries replies
+    (c.in_ok-last_round-in-Err.ensures.all _ h.bytes c.loop-self.feed h.none_ready h.stands) h.faultless
+    (Consumes-kept _ _ _ h.bytes h.consumed c.in-Err.ensures.refused) (rose_from _ _ _ h.no_read_failed c.in-Err.ensures.cause.failed)

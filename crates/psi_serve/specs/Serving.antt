@@ -1,0 +1,141 @@
+-- What serving an input leaves of its source and its sink, by its status.
+use Rattle.std.specs.Prelude.{◌≡◌, ◌⊎◌, ℕ, ◌<◌, ◌≤◌, Bool, true, IsTrue, List, [], ◌++◌, length, take, Option, Some, None, IfSome, IsSome}
+use Rattle.std.specs.List.{All, flat_map, filter_map}
+use Rattle.std.specs.Io.KnownBytes.{Appends, Consumes}
+use Rattle.psi_residue.specs.Parameters.{Parameters}
+use Rattle.psi_bundle.specs.declared.history.Entry.{Entry}
+use Rattle.psi_bundle.specs.Versions.{empty_version}
+use Rattle.psi_outside.specs.Causes.{Rose}
+use Rattle.psi_outside.specs.Ends.{Ends}
+use Rattle.psi_outside.specs.Streams.{IsAllFlushed}
+use Rattle.psi_frames.specs.declared.frame.Frame.{Frame}
+use Rattle.psi_frames.specs.Frames.{Fault, IsFrame, AreWholeFrames, frames_bytes, most_bytes, request_table}
+use Rattle.psi_frames.specs.Rounds.{AreRounds, IsRound, is_full, request_rounds}
+use Rattle.psi_frames.specs.Served.{IsOneLane, IsServed, Sent, exchanges, place_of, text_of}
+use Rattle.query_pool.specs.declared.round.Served.{Served}
+
+-- The replies serve the rounds that these frames fall into, from the empty set. Alone: they are those of one lane.
+pub record AreRepliesTo (p : Parameters) (alone : Bool) (frames : List Frame) (sents : List Sent) : Type 0 where
+  pub rounds : List (List Frame)
+  pub are_rounds : AreRounds rounds frames
+  pub history : List Entry
+  pub served : IsServed p (empty_version p) [] history (request_rounds p rounds) sents
+  pub one_lane : alone ≡ true → IsOneLane (exchanges (request_rounds p rounds) sents)
+
+-- how many of the replies have a place: each is an entry of the history
+abbrev pub entries_of : List Sent → ℕ
+entries_of sents = length (filter_map (λ s. place_of s.reply) sents)
+
+-- the run counts these replies, and those of them that have a place
+pub record Counts (served : Served) (sents : List Sent) : Type 0 where
+  pub entries : served.entries ≡ entries_of sents
+  pub replies : served.replies ≡ length sents
+
+-- all that the sink holds is flushed; or nothing was written, and as much is flushed as before
+abbrev pub IsFlushedBehind : (old new : Ends) → (text : List ℕ) → Type 0
+IsFlushedBehind old new text = IsAllFlushed new.written new.flushed ⊎ ((text ≡ []) × (new.flushed ≡ old.flushed))
+
+-- The replies to these frames were written behind what the sink held, and flushed. The run counts them, and no write failed.
+pub record IsAnswered (p : Parameters) (alone : Bool) (frames : List Frame) (old new : Ends) (served : Served) : Type 0 where
+  pub sents : List Sent
+  pub replies : AreRepliesTo p alone frames sents
+  pub written : Appends old.written new.written (text_of sents)
+  pub flushed : IsFlushedBehind old new (text_of sents)
+  pub counts : Counts served sents
+  pub no_write_failed : new.writes_failed ≡ old.writes_failed
+
+-- these bytes are what the source had left, where it tells that
+abbrev pub IsInput : Ends → List ℕ → Type 0
+IsInput old input = IfSome old.left (λ bytes. bytes ≡ input)
+
+-- 0: the input is whole frames to its end, and these are answered
+pub record IsDone (p : Parameters) (alone : Bool) (old new : Ends) (served : Served) : Type 0 where
+  pub input : List ℕ
+  pub told : IsInput old input
+  pub size : length input ≤ most_bytes
+  pub frames : List Frame
+  pub whole : AreWholeFrames request_table input frames None
+  pub answered : IsAnswered p alone frames old new served
+  pub ended : IfSome old.left (λ _. new.left ≡ Some [])
+  pub no_read_failed : new.reads_failed ≡ old.reads_failed
+
+-- 4: the input has a bad frame, or ends within a frame, or is too long; the whole frames before are answered
+pub record IsBadInput (p : Parameters) (alone : Bool) (old new : Ends) (served : Served) : Type 0 where
+  pub input : List ℕ
+  pub told : IsInput old input
+  pub frames : List Frame
+  pub fault : Option Fault
+  pub whole : AreWholeFrames request_table input frames fault
+  pub bad : IsSome fault ⊎ (most_bytes < length input)
+  pub answered : IsAnswered p alone frames old new served
+  pub no_read_failed : new.reads_failed ≡ old.reads_failed
+
+-- 5: a read failed; the whole frames of the bytes that were taken are answered, and none of these is bad
+pub record IsReadFault (p : Parameters) (alone : Bool) (old new : Ends) (served : Served) : Type 0 where
+  pub taken : List ℕ
+  pub consumed : Consumes old.left new.left taken
+  pub size : length taken ≤ most_bytes
+  pub frames : List Frame
+  pub fault : Option Fault
+  pub whole : AreWholeFrames request_table taken frames fault
+  pub no_bad_frame : (fault ≡ None) ⊎ (fault ≡ Some Fault.Short)
+  pub answered : IsAnswered p alone frames old new served
+  pub failed : Rose old.reads_failed new.reads_failed
+
+-- bytes begin with these frames, among those that are looked at
+pub record BeginWith (bytes : List ℕ) (frames : List Frame) : Type 0 where
+  pub rest : List ℕ
+  pub whole : take most_bytes bytes ≡ frames_bytes frames ++ rest
+  pub each : All (IsFrame request_table) frames
+
+-- frames that fall into full rounds
+pub record FillRounds (frames : List Frame) : Type 0 where
+  pub rounds : List (List Frame)
+  pub all : frames ≡ flat_map (λ round. round) rounds
+  pub each : All IsRound rounds
+  pub full : All (λ round. IsTrue (is_full round)) rounds
+
+-- a round that is full, or that ends with the last whole frame of the bytes
+abbrev pub IsLastOrFull : (taken : List ℕ) → (frames round : List Frame) → Type 0
+IsLastOrFull taken frames round = IsTrue (is_full round) ⊎ ((fault : Option Fault) × AreWholeFrames request_table taken frames fault)
+
+-- 6: a write or a flush failed in some round; the replies of earlier rounds stand whole, then a front of that round's. The run counts
+-- the replies of the earlier rounds.
+pub record IsWriteFault (p : Parameters) (alone : Bool) (old new : Ends) (served : Served) : Type 0 where
+  pub taken : List ℕ
+  pub consumed : Consumes old.left new.left taken
+  pub earlier : List Frame
+  pub round : List Frame
+  pub begin_with : BeginWith taken (earlier ++ round)
+  pub fill_rounds : FillRounds earlier
+  pub is_round : IsRound round
+  pub ends : IsLastOrFull taken (earlier ++ round) round
+  pub done : List Sent
+  pub done_replies : AreRepliesTo p alone earlier done
+  pub last : List Sent
+  pub replies : AreRepliesTo p alone (earlier ++ round) (done ++ last)
+  pub front : (n : ℕ) × Appends old.written new.written (text_of done ++ take n (text_of last))
+  pub counts : Counts served done
+  pub failed : Rose old.writes_failed new.writes_failed
+
+-- 7: memory ran out in some round; the replies of the earlier rounds, which are full, stand whole, and nothing of that round
+pub record IsOutOfMemory (p : Parameters) (alone : Bool) (old new : Ends) (served : Served) : Type 0 where
+  pub taken : List ℕ
+  pub consumed : Consumes old.left new.left taken
+  pub frames : List Frame
+  pub begin_with : BeginWith taken frames
+  pub fill_rounds : FillRounds frames
+  pub answered : IsAnswered p alone frames old new served
+
+-- the statuses of serving
+abbrev pub IsServingStatus : ℕ → Type 0
+IsServingStatus n = (n ≡ 0) ⊎ ((n ≡ 4) ⊎ ((n ≡ 5) ⊎ ((n ≡ 6) ⊎ (n ≡ 7))))
+
+-- What serving leaves, by its status.
+pub record HasServed (p : Parameters) (alone : Bool) (old new : Ends) (served : Served) : Type 0 where
+  pub statuses : IsServingStatus served.status
+  pub done : served.status ≡ 0 → IsDone p alone old new served
+  pub bad_input : served.status ≡ 4 → IsBadInput p alone old new served
+  pub read_fault : served.status ≡ 5 → IsReadFault p alone old new served
+  pub write_fault : served.status ≡ 6 → IsWriteFault p alone old new served
+  pub no_memory : served.status ≡ 7 → IsOutOfMemory p alone old new served
