@@ -1,8 +1,14 @@
-pub mod Tables
-pub mod RootPlanes
-pub mod Evaluated
-pub mod Sighted
-pub mod Asking
-pub mod Calls
-pub mod Served
-pub mod Ends
+mod ItemLines
+mod Repeats
+mod SoFar
+mod TextLines
+mod ShortItems
+mod Made
+mod Finished
+mod Commands
+mod AllRuns
+mod OneReply
+mod Fitting
+mod Clauses
+mod Entries
+mod QueryOpenings

@@ -1,123 +1,60 @@
--- What a run of the command leaves of its source and its sink, by its status.
-use Rattle.std.specs.Prelude.{◌≡◌, ◌⊎◌, ℕ, nat_eq, codes, List, [], take, Option, Some, IfSome, if◌then◌else◌, ⊤}
-use Rattle.std.specs.Io.KnownBytes.{Appends}
-use Rattle.psi_outside.specs.declared.faults.ReadFault.{ReadFault}
-use Rattle.psi_outside.specs.declared.faults.ReadFault.TheVariants as read
-use Rattle.psi_outside.specs.Causes.{Rose}
-use Rattle.psi_outside.specs.Streams.{IsAllFlushed}
-use Rattle.psi_residue.specs.Parameters.{Parameters}
-use Rattle.noise_ledger.specs.Verdicts.{ArePassed}
+-- What a run leaves that reads its input whole and then writes one text: `params`, `ask`, `open` and `help`.
+use Rattle.std.specs.Prelude.{◌≡◌, ◌⊎◌, ℕ, List, [], Some, IfSome, Ok, Err, Result}
+use Rattle.psi_words.specs.declared.command.Command.{Command}
+use Rattle.psi_words.specs.declared.command.Command.TheVariants as command
+use Rattle.psi_cli.specs.declared.outcome.Outcome.{Outcome}
 use Rattle.psi_cli.specs.declared.status.Status.{Status}
 use Rattle.psi_cli.specs.declared.status.Status.TheVariants as status
-use Rattle.psi_cli.specs.declared.serve.ServeFault.{ServeFault}
-use Rattle.psi_cli.specs.declared.serve.ServeFault.TheVariants as fault
-use Rattle.psi_cli.specs.Runs.{IsAnswered, IsNoInput}
+use Rattle.psi_cli.specs.Commands.{word_parameters}
+use Rattle.psi_cli.specs.Outcomes.{Makes}
+use Rattle.psi_cli.specs.Opening.{OpensNothing}
+use Rattle.psi_cli.specs.Reading.{AsksNothing}
+use Rattle.psi_cli.specs.Worlds.{Given, Held, IsCutOff, IsUntouched, IsWritten, NoReadFailed, World}
 
--- what a source and a sink tell at one moment, and how often each has failed
-pub record Ends : Type 0 where
-  pub left : Option (List ℕ)
-  pub reads_failed : ℕ
-  pub written : Option (List ℕ)
-  pub flushed : Option ℕ
-  pub writes_failed : ℕ
+-- why a command comes to no text, by the status: its parameters are refused, it is given a bad input, a read failed, or memory ran out
+abbrev pub GivesUp : Command → (old new : Given) → Status → Type 0
+GivesUp (command.Ask rows capacity units drop counted seed session number) old new s =
+    AsksNothing (word_parameters rows capacity units drop counted) old.left new.left old.reads_failed new.reads_failed s × (new.files_failed ≡ old.files_failed)
+GivesUp (command.Open rows capacity units drop counted seed name) old new s = OpensNothing (word_parameters rows capacity units drop counted) name old new s
+GivesUp _ old new s = s ≡ status.NoMemory
 
--- the source was read to its end, and the text that serves its bytes stands behind what the sink held
-pub record IsDone (p : Parameters) (old new : Ends) : Type 0 where
-  pub answered : IfSome old.left (λ bytes. (text : List ℕ) × IsAnswered p bytes text × Appends old.written new.written text)
+-- the source was read to its end, and no read failed
+pub record HasReadAll (old new : Given) : Type 0 where
   pub ended : IfSome old.left (λ _. new.left ≡ Some [])
-  pub flushed : IsAllFlushed new.written new.flushed
-  pub no_read_failed : new.reads_failed ≡ old.reads_failed
-  pub no_write_failed : new.writes_failed ≡ old.writes_failed
+  pub no_read_failed : NoReadFailed old new
 
--- nothing reached the sink
-pub record IsUntouched (old new : Ends) : Type 0 where
-  pub written : new.written ≡ old.written
-  pub flushed : new.flushed ≡ old.flushed
-  pub no_write_failed : new.writes_failed ≡ old.writes_failed
+-- a command that reads items has read its source to its end, and one that does not has read nothing
+abbrev pub HasRead : Command → (old new : Given) → Type 0
+HasRead (command.Ask rows capacity units drop counted seed session number) old new = HasReadAll old new
+HasRead (command.Open rows capacity units drop counted seed name) old new = HasReadAll old new
+HasRead _ old new = new ≡ old
 
--- the bytes are no input of the command, no read failed, and nothing was written
-pub record IsBadInput (p : Parameters) (old new : Ends) : Type 0 where
-  pub bad : IfSome old.left (IsNoInput p)
-  pub no_read_failed : new.reads_failed ≡ old.reads_failed
-  pub untouched : IsUntouched old new
+-- what the command comes to was written, with its status
+pub record HasWritten (c : Command) (old new : World) (s : Status) : Type 0 where
+  pub text : List ℕ
+  pub makes : Makes c old.given.left old.given.files s text
+  pub read : HasRead c old.given new.given
+  pub written : IsWritten text old.held new.held
 
--- a read failed, and nothing was written
-pub record IsReadFault (old new : Ends) : Type 0 where
-  pub failed : Rose old.reads_failed new.reads_failed
-  pub untouched : IsUntouched old new
+-- what the command comes to, with whatever status, was not written whole
+pub record HasBeenCutOff (c : Command) (old new : World) (s : Status) : Type 0 where
+  pub told : s ≡ status.WriteFault
+  pub text : List ℕ
+  pub meant : Status
+  pub makes : Makes c old.given.left old.given.files meant text
+  pub read : HasRead c old.given new.given
+  pub cut_off : IsCutOff text old.held new.held
 
--- a write or the flush failed, behind a front of the text that serves the bytes
-pub record IsWriteFault (p : Parameters) (old new : Ends) : Type 0 where
-  pub failed : Rose old.writes_failed new.writes_failed
-  pub front : IfSome old.left (λ bytes. (text : List ℕ) × IsAnswered p bytes text × ((n : ℕ) × Appends old.written new.written (take n text)))
+-- the command gave up, and nothing was written
+pub record HasGivenUp (c : Command) (old new : World) (s : Status) : Type 0 where
+  pub why : GivesUp c old.given new.given s
+  pub untouched : IsUntouched old.held new.held
 
--- nothing was read
-pub record IsUnread (old new : Ends) : Type 0 where
-  pub left : new.left ≡ old.left
-  pub no_read_failed : new.reads_failed ≡ old.reads_failed
+-- what a run leaves, and its status
+abbrev pub Leaves : Command → World → World → Status → Type 0
+Leaves c old new s = HasWritten c old new s ⊎ (HasBeenCutOff c old new s ⊎ HasGivenUp c old new s)
 
--- the parameters are refused, and nothing was read or written
-pub record IsRefusal (p : Parameters) (old new : Ends) : Type 0 where
-  pub refused : ArePassed p → ⊥
-  pub unread : IsUnread old new
-  pub untouched : IsUntouched old new
-
--- what a run leaves, by its status; `Words` is no status of a run
-abbrev pub Leaves : Parameters → Ends → Ends → Status → Type 0
-Leaves p old new status.Done = IsDone p old new
-Leaves p old new status.Words = ⊥
-Leaves p old new status.Parameters = IsRefusal p old new
-Leaves p old new status.BadInput = IsBadInput p old new
-Leaves p old new status.ReadFault = IsReadFault old new
-Leaves p old new status.WriteFault = IsWriteFault p old new
-Leaves p old new status.NoMemory = IsUntouched old new
-
--- the number of a status
-abbrev pub number_of : Status → ℕ
-number_of status.Done = 0
-number_of status.Words = 2
-number_of status.Parameters = 3
-number_of status.BadInput = 4
-number_of status.ReadFault = 5
-number_of status.WriteFault = 6
-number_of status.NoMemory = 7
-
--- the status of a run whose source was not read to its end, and of one whose input was not served
-abbrev pub status_of_read : ReadFault → Status
-status_of_read read.Failed = status.ReadFault
-status_of_read read.TooLong = status.BadInput
-status_of_read read.NoMemory = status.NoMemory
-
-abbrev pub status_of_fault : ServeFault → Status
-status_of_fault fault.BadInput = status.BadInput
-status_of_fault fault.NoMemory = status.NoMemory
-
--- the bytes that were left are no input of the command, and no read failed
-pub record IsNotServed (p : Parameters) (left : Option (List ℕ)) (before now : ℕ) : Type 0 where
-  pub bad : IfSome left (IsNoInput p)
-  pub no_read_failed : now ≡ before
-
--- why there is no text of replies, by the status
-abbrev pub GivesUp : Parameters → Option (List ℕ) → ℕ → ℕ → Status → Type 0
-GivesUp p left before now status.Done = ⊥
-GivesUp p left before now status.Words = ⊥
-GivesUp p left before now status.Parameters = ⊥
-GivesUp p left before now status.BadInput = IsNotServed p left before now
-GivesUp p left before now status.ReadFault = Rose before now
-GivesUp p left before now status.WriteFault = ⊥
-GivesUp p left before now status.NoMemory = ⊤
-
--- the statuses that there are
-abbrev pub IsStatus : ℕ → Type 0
-IsStatus n = (n ≡ 0) ⊎ ((n ≡ 2) ⊎ ((n ≡ 3) ⊎ ((n ≡ 4) ⊎ ((n ≡ 5) ⊎ ((n ≡ 6) ⊎ (n ≡ 7))))))
-
--- the line on standard error for a status
-abbrev pub line_of : ℕ → List ℕ
-line_of n =
-    if nat_eq n 2 then codes "psi: words not understood"
-    else (if nat_eq n 3 then codes "psi: parameters refused"
-    else (if nat_eq n 4 then codes "psi: bad input"
-    else (if nat_eq n 5 then codes "psi: read fault"
-    else (if nat_eq n 6 then codes "psi: write fault"
-    else (if nat_eq n 7 then codes "psi: no memory"
-    else (if nat_eq n 8 then codes "psi: items crowded" else []))))))
+-- how the end of a run writes what was made, if anything was
+abbrev pub Finishes : Result Outcome Status → Held → Held → Status → Type 0
+Finishes (Ok made) old new s = ((s ≡ made.status) × IsWritten made.text.items old new) ⊎ ((s ≡ status.WriteFault) × IsCutOff made.text.items old new)
+Finishes (Err why) old new s = (s ≡ why) × IsUntouched old new

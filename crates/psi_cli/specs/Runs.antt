@@ -1,30 +1,89 @@
--- What the headline rests on: the inputs of the command `serve 1 CAPACITY 0 1 0`, and the text that serves one.
-use Rattle.std.specs.Prelude.{◌≡◌, ℕ, List}
+-- What a run of the program leaves, by its words.
+use Rattle.std.specs.Prelude.{◌≡◌, ◌⊎◌, ℕ, Bool, true, nat_eq, List, map, String, string_bytes, Option, None, Some, Result, Ok, Err, ⊤}
 use Rattle.psi_residue.specs.Parameters.{Parameters}
-use Rattle.psi_frames.specs.declared.frame.Frame.{Frame}
-use Rattle.psi_frames.specs.Inputs.{IsOneRoundInput}
-use Rattle.psi_frames.specs.Served.{IsOneLaneTextOf}
-use Rattle.psi_cli.specs.Inputs.{serve_parameters}
-use Rattle.psi_cli.specs.Words.{IsServe}
+use Rattle.noise_ledger.specs.Verdicts.{ArePassed}
+use Rattle.psi_words.specs.declared.command.Command.{Command}
+use Rattle.psi_words.specs.declared.command.Command.TheVariants as command
+use Rattle.psi_words.specs.declared.fault.WordFault.{WordFault}
+use Rattle.psi_words.specs.Grammar.{judged}
+use Rattle.psi_outside.specs.Ends.{Ends}
+use Rattle.query_pool.specs.declared.round.Served.{Served}
+use Rattle.psi_serve.specs.Serving.{HasServed}
+use Rattle.psi_cli.specs.declared.status.Status.{Status}
+use Rattle.psi_cli.specs.Commands.{command_parameters, word_parameters}
+use Rattle.psi_cli.specs.Leaving.{Leaves}
+use Rattle.psi_cli.specs.Statuses.{number_of}
+use Rattle.psi_cli.specs.Worlds.{World, ends_of}
 
--- the bytes are an input of the command with these parameters, and this is the one-lane text that serves it
-pub record IsAnswered (p : Parameters) (bytes text : List ℕ) : Type 0 where
-  pub frames : List Frame
-  pub input : IsOneRoundInput p bytes frames
-  pub served : IsOneLaneTextOf p frames text
+-- what words give: a command, or why there is none
+abbrev pub Judged : Type 0
+Judged = Result Command WordFault
 
--- the bytes are no input of the command
-abbrev pub IsNoInput : Parameters → List ℕ → Type 0
-IsNoInput p bytes = (frames : List Frame) → IsOneRoundInput p bytes frames → ⊥
+abbrev pub given_by : {A : Type 0} → List (String A) → Judged
+given_by words = judged (map string_bytes words)
 
--- the words are the command's, with these parameters
-pub record AsksFor (words : List (List ℕ)) (p : Parameters) : Type 0 where
-  pub capacity : ℕ
-  pub serve : IsServe words capacity
-  pub are : p ≡ serve_parameters capacity
+-- nothing is read or written, with this status
+abbrev pub DoesNothing : World → World → (n status : ℕ) → Type 0
+DoesNothing old new n status = (n ≡ status) × (new ≡ old)
 
--- The words are a command's, the bytes are an input of it, and this is the one-lane text that serves it.
-pub record IsAnsweredBy (words : List (List ℕ)) (bytes text : List ℕ) : Type 0 where
-  pub parameters : Parameters
-  pub asked : AsksFor words parameters
-  pub answered : IsAnswered parameters bytes text
+-- rounds were served with these parameters; alone: by one lane
+pub record ServedSo (p : Parameters) (alone : Bool) (old new : Ends) (n : ℕ) : Type 0 where
+  pub passed : ArePassed p
+  pub served : Served
+  pub status_is : served.status ≡ n
+  pub leaves : HasServed p alone old new served
+
+-- the parameters are refused, and nothing is read or written
+pub record IsRefused (p : Parameters) (old new : Ends) (n : ℕ) : Type 0 where
+  pub refused : ArePassed p → ⊥
+  pub status_is : n ≡ 3
+  pub nothing : new ≡ old
+
+-- rounds are served, unless the parameters are refused
+abbrev pub RunsRounds : Parameters → (alone : Bool) → (old new : Ends) → ℕ → Type 0
+RunsRounds p alone old new n = ServedSo p alone old new n ⊎ IsRefused p old new n
+
+-- and no file is read
+pub record ServesRounds (p : Parameters) (alone : Bool) (old new : World) (n : ℕ) : Type 0 where
+  pub rounds : RunsRounds p alone (ends_of old) (ends_of new) n
+  pub no_file_failed : new.given.files_failed ≡ old.given.files_failed
+
+-- a run that reads its input whole
+abbrev pub RunsWhole : Command → World → World → ℕ → Type 0
+RunsWhole c old new n = (s : Status) × (n ≡ number_of s) × Leaves c old new s
+
+-- A run of one thread, which knows neither `serve` nor `demo`.
+abbrev pub RunsPlain : Judged → World → World → ℕ → Type 0
+RunsPlain (Err fault) old new n = DoesNothing old new n 2
+RunsPlain (Ok (command.Serve rows capacity units drop counted workers builders)) old new n = DoesNothing old new n 2
+RunsPlain (Ok (command.Demo number workers)) old new n = DoesNothing old new n 2
+RunsPlain (Ok (command.Replay rows capacity units drop counted)) old new n = ServesRounds (word_parameters rows capacity units drop counted) true old new n
+RunsPlain (Ok c) old new n = RunsWhole c old new n
+
+-- A run of the program, which does not know `demo` yet.
+abbrev pub Runs : Judged → World → World → ℕ → Type 0
+Runs (Ok (command.Serve rows capacity units drop counted workers builders)) old new n = ServesRounds (word_parameters rows capacity units drop counted) true old new n
+Runs given old new n = RunsPlain given old new n
+
+-- words that give no command of a run of one thread, and none of the program
+abbrev pub GivesNoPlain : Judged → Type 0
+GivesNoPlain (Err fault) = ⊤
+GivesNoPlain (Ok (command.Serve rows capacity units drop counted workers builders)) = ⊤
+GivesNoPlain (Ok (command.Demo number workers)) = ⊤
+GivesNoPlain (Ok c) = ⊥
+
+abbrev pub GivesNone : Judged → Type 0
+GivesNone (Err fault) = ⊤
+GivesNone (Ok (command.Demo number workers)) = ⊤
+GivesNone (Ok c) = ⊥
+
+-- the words ask for `serve` with these parameters, workers and builders
+abbrev pub IsServe : Judged → Parameters → (workers builders : ℕ) → Type 0
+IsServe (Ok (command.Serve rows capacity units drop counted own_workers own_builders)) p workers builders =
+    (p ≡ word_parameters rows capacity units drop counted) × (workers ≡ own_workers) × (builders ≡ own_builders)
+IsServe _ p workers builders = ⊥
+
+-- they ask for something else
+abbrev pub IsNoServe : Judged → Type 0
+IsNoServe (Ok (command.Serve rows capacity units drop counted workers builders)) = ⊥
+IsNoServe _ = ⊤

@@ -1,23 +1,27 @@
-//! The program: a sender of private set intersection over framed requests.
+//! The program: private set intersection with a live sender, both ends.
+//!
+//! `psi_run` is all that it does: it looks at the words, reads the source and the files, and writes to the sink. The tables of the
+//! words are those of `psi_words`; what is written stands in `specs/`.
 #![tactic(auto)]
 
-mod answers;
-mod evaluation;
-mod planes;
-#[cfg(test)]
-mod receiver_tests;
+mod answer_file;
+mod asking;
+mod items;
+mod opening;
+mod outcome;
+mod params;
+mod plain;
+mod reading;
 mod run;
-#[cfg(test)]
-mod run_tests;
-mod serve;
 mod status;
 #[cfg(test)]
 mod tests;
-mod words;
+mod texts;
 
 use psi_outside::{DiskFiles, Open, ReaderSource, WriterSink};
+use psi_words::status_line;
 use run::psi_run;
-use status::{Status, status_line};
+use status::Status;
 use std::alloc::Global;
 use std::process::ExitCode;
 use std::{env, io};

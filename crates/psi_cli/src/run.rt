@@ -1,153 +1,150 @@
 //! The top call: all that the program does.
-ghost use Rattle.std.specs.Prelude.{◌≡◌, ◌⊎◌, ◌↔◌, ℕ, List, [], Some, IfOk, OnOk, IfErr, IfSome, map, take, string_bytes};
+ghost use Rattle.std.specs.Prelude.{◌≡◌, ◌⊎◌, ℕ, true, List, [], Some, IfSome, IsNone};
 ghost use Rattle.std.specs.Io.KnownBytes.{Appends};
+ghost use Rattle.noise_ledger.specs.Verdicts.{parameters_of};
 ghost use Rattle.psi_outside.specs.Causes.{Rose};
-ghost use Rattle.psi_outside.specs.Streams.{IsAllFlushed};
-ghost use Rattle.noise_ledger.specs.Verdicts.{ArePassed, parameters_of};
-ghost use Rattle.psi_residue.specs.Parameters.{Parameters};
-ghost use Rattle.psi_cli.specs.declared.status.Status.TheVariants.{Parameters as Refused};
-ghost use Rattle.psi_cli.specs.Inputs.{serve_parameters};
-ghost use Rattle.psi_frames.specs.declared.frame.Frame.{Frame};
-ghost use Rattle.psi_frames.specs.Inputs.{IsOneRoundInput};
-ghost use Rattle.psi_cli.specs.Leaving.{GivesUp, IsStatus, Leaves, status_of_fault, status_of_read};
-ghost use Rattle.psi_cli.specs.Runs.{AsksFor, IsAnswered, IsAnsweredBy, IsNoInput};
+ghost use Rattle.psi_outside.specs.Ends.{ends};
+ghost use Rattle.psi_words.specs.Texts.{help_lines};
+ghost use Rattle.psi_cli.specs.declared.status.Status.TheVariants.{Done};
+ghost use Rattle.psi_cli.specs.Answered.{AreRefused, IfAsk, IfCrowded, IfHelp, IfNoRounds, IfOpen, IfParams, IfRounds, IsAnswered, IsBadInput, IsReading, IsToldBad, IsToldCrowded, IsToldGood};
+ghost use Rattle.psi_cli.specs.ItemTexts.{items_of};
+ghost use Rattle.psi_cli.specs.Outcomes.{AreFigures, IsAskFrame, IsRefusal, OpensFile};
+ghost use Rattle.psi_cli.specs.Runs.{GivesNone, IsNoServe, IsServe, Runs, RunsRounds, given_by};
+ghost use Rattle.psi_cli.specs.Statuses.{IsBadOrFails, IsCrowdedOrFails, IsDoneOrFails, IsEmptyNumber, IsReadWhole, IsRefusedOrFails, IsStatus, IsUnreadStatus};
+ghost use Rattle.psi_cli.specs.Worlds.{IsFlushedSo, world};
 
-use crate::serve::{ServeFault, replies_to};
+use crate::params::word_parameters;
+use crate::plain::run_plain;
 use crate::status::Status;
-use crate::words::serve_capacity;
 use noise_ledger::{Params, check};
-use psi_outside::{Files, Gate, ReadFault, Sink, Source, read_all, write_all};
+use psi_outside::{Files, Gate, Sink, Source};
+use psi_serve::serve_alone;
+use psi_words::{Command, read_words};
+use query_pool::Shape;
 use std::alloc::Global;
 use std::sync::Wait;
 use std::thread::Threads;
 
-// The most bytes that are read: 512 MiB, which is more than one round can have.
-const LIMIT: usize = 536870912;
-
-/// All that the program does: it takes the words of the command line, without the program's name, and the
-/// source, files, sink and gate that are handed in, and answers the status.
+/// All that the program does on the words of its command line. The words are looked at first, then the parameters, and only then
+/// is anything read; `open` reads its items before its file. The result is the number that the program ends with:
 ///
-/// The one command is `serve 1 CAPACITY 0 1 0`, where CAPACITY is a number from 0 to 65535. It reads request frames
-/// (Puts, Drops and Asks of one round) from the source to its end, and writes a reply frame for each, in input order.
+/// | Status | Comes | What was written |
+/// |---|---|---|
+/// | 0 | all that was asked for is done | the command's text, or a reply for each request, flushed |
+/// | 2 | exactly where the words give no command | nothing |
+/// | 3 | only where the parameters are refused | for `params` why they are refused; else nothing |
+/// | 4 | only where the input or the file is none of the command | of rounds the replies to the whole frames before; else nothing |
+/// | 5 | only where a read failed | of rounds the replies to the whole frames before; else nothing |
+/// | 6 | only where a write or a flush failed | a front of the text |
+/// | 7 | memory ran out | of rounds the replies of earlier rounds; else nothing |
+/// | 8 | only where the items have no placement | the items that have none |
 ///
-/// | Status | Comes |
-/// |---|---|
-/// | 0 | the replies were written and flushed |
-/// | 2 | exactly where the words are others; nothing is read or written |
-/// | 3 | exactly where the parameters are refused by `check`; nothing is read or written |
-/// | 4 | exactly where no read failed and the input is none of the command; nothing is written |
-/// | 5 | only where a read failed; nothing is written |
-/// | 6 | only where a write or the flush failed; a front of the text was written |
-/// | 7 | memory ran out; nothing is written |
+/// Of input that is told and none of the command, the status is 4, or 5 to 7 for a fault or want of memory; so it is of 3, of 8 and, of
+/// good input, of 0. Each answer that `serve` and `replay` write to a receiver's query opens to exactly what is found in the set at the
+/// query's place.
 pub fn psi_run<R: Threads + Wait + Sync, S: Source, F: Files, K: Sink, G: Gate>(
-    _rt: &R,
+    rt: &R,
     alloc: Global,
     words: &[String],
     input: &mut S,
-    _files: &mut F,
+    files: &mut F,
     output: &mut K,
     _gate: &G,
 ) -> u8
     ensures statuses { IsStatus result }
-    ensures words { (result ≡ 2) ↔ ((p : Parameters) → AsksFor (map string_bytes words.now) p → ⊥) }
-    ensures refused { (result ≡ 3) ↔ ((p : Parameters) × AsksFor (map string_bytes words.now) p × (ArePassed p → ⊥)) }
-
-    // The headline: one reply a request, in input order, along one history of the one-thread sender.
-    ensures done { result ≡ 0 → IfSome (S.left input.old) (λ bytes. (text : List ℕ) × IsAnsweredBy (map string_bytes words.now) bytes text × Appends (K.written output.old) (K.written output.new) text) }
-    ensures ended { result ≡ 0 → IfSome (S.left input.old) (λ _. S.left input.new ≡ Some []) }
-    ensures flushed { result ≡ 0 → IsAllFlushed (K.written output.new) (K.flushed output.new) }
-
-    // When each other status comes, and when it doesn't.
-    ensures bad { (p : Parameters) → AsksFor (map string_bytes words.now) p → result ≡ 4 → IfSome (S.left input.old) (IsNoInput p) }
-    ensures bad_only { (p : Parameters) → AsksFor (map string_bytes words.now) p → ArePassed p → IfSome (S.left input.old) (λ bytes. IsNoInput p bytes → (result ≡ 4) ⊎ ((result ≡ 5) ⊎ (result ≡ 7))) }
-    ensures complete { (p : Parameters) → AsksFor (map string_bytes words.now) p → ArePassed p → IfSome (S.left input.old) (λ bytes. (frames : List Frame) → IsOneRoundInput p bytes frames → (result ≡ 0) ⊎ ((result ≡ 5) ⊎ ((result ≡ 6) ⊎ (result ≡ 7)))) }
-    ensures no_read_failed { (result ≡ 0) ⊎ (result ≡ 4) → S.faults input.new ≡ S.faults input.old }
-    ensures no_write_failed { result ≡ 0 → K.faults output.new ≡ K.faults output.old }
-    ensures read { result ≡ 5 → Rose (S.faults input.old) (S.faults input.new) }
+    ensures words { (result ≡ 2 → GivesNone (given_by words.now)) × (GivesNone (given_by words.now) → result ≡ 2) }
+    ensures refused { result ≡ 3 → AreRefused (given_by words.now) }
+    ensures refused_only { AreRefused (given_by words.now) → IsRefusedOrFails result }
+    ensures refusal { result ≡ 3 → IfParams (given_by words.now) (λ p. (text : List ℕ) × IsRefusal p text × Appends (K.written output.old) (K.written output.new) text) }
+    ensures figures { result ≡ 0 → IfParams (given_by words.now) (λ p. (text : List ℕ) × AreFigures p text × Appends (K.written output.old) (K.written output.new) text) }
+    ensures helped { result ≡ 0 → IfHelp (given_by words.now) (Appends (K.written output.old) (K.written output.new) help_lines) }
+    ensures answered { result ≡ 0 → IfRounds (given_by words.now) (λ p alone. IfSome (S.left input.old) (λ bytes. (text : List ℕ) × IsAnswered p alone bytes text × Appends (K.written output.old) (K.written output.new) text)) }
+    ensures served { IfRounds (given_by words.now) (λ p alone. RunsRounds p alone
+        (ends (S.left input.old) (S.faults input.old) (K.written output.old) (K.flushed output.old) (K.faults output.old))
+        (ends (S.left input.new) (S.faults input.new) (K.written output.new) (K.flushed output.new) (K.faults output.new)) result) }
+    ensures asked { result ≡ 0 → IfAsk (given_by words.now) (λ p seed session number. IfSome (S.left input.old) (λ bytes. (text : List ℕ) × IsAskFrame p seed session number (items_of bytes) text × Appends (K.written output.old) (K.written output.new) text)) }
+    ensures opened { result ≡ 0 → IfOpen (given_by words.now) (λ p seed name. IfSome (S.left input.old) (λ bytes. IfSome (F.files files.old) (λ known. (text : List ℕ) × OpensFile p seed (items_of bytes) known name Done text × Appends (K.written output.old) (K.written output.new) text))) }
+    ensures ended { result ≡ 0 → IsReading (given_by words.now) → IfSome (S.left input.old) (λ _. S.left input.new ≡ Some []) }
+    ensures complete { IsToldGood (given_by words.now) (S.left input.old) (F.files files.old) → IsDoneOrFails result }
+    ensures bad { result ≡ 4 → IsBadInput (given_by words.now) (S.left input.old) (F.files files.old) }
+    ensures bad_only { IsToldBad (given_by words.now) (S.left input.old) (F.files files.old) → IsBadOrFails result }
+    ensures crowded { result ≡ 8 → IfCrowded (given_by words.now) (S.left input.old) (F.files files.old) (Appends (K.written output.old) (K.written output.new)) }
+    ensures crowded_only { IsToldCrowded (given_by words.now) (S.left input.old) (F.files files.old) → IsCrowdedOrFails result }
+    ensures read { result ≡ 5 → Rose (S.faults input.old) (S.faults input.new) ⊎ Rose (F.faults files.old) (F.faults files.new) }
     ensures write { result ≡ 6 → Rose (K.faults output.old) (K.faults output.new) }
-
-    // What was read and written.
-    ensures unread { (result ≡ 2) ⊎ (result ≡ 3) → (S.left input.new ≡ S.left input.old) × (S.faults input.new ≡ S.faults input.old) }
-    ensures unwritten { (result ≡ 2) ⊎ ((result ≡ 3) ⊎ ((result ≡ 4) ⊎ ((result ≡ 5) ⊎ (result ≡ 7)))) → K.written output.new ≡ K.written output.old }
-    ensures front { result ≡ 6 → IfSome (S.left input.old) (λ bytes. (text : List ℕ) × IsAnsweredBy (map string_bytes words.now) bytes text × ((n : ℕ) × Appends (K.written output.old) (K.written output.new) (take n text))) }
+    ensures flushed { result ≡ 0 → IsFlushedSo (record { written = K.written output.old; flushed = K.flushed output.old; writes_failed = K.faults output.old }) (record { written = K.written output.new; flushed = K.flushed output.new; writes_failed = K.faults output.new }) }
+    ensures no_write_failed { result ≡ 0 → K.faults output.new ≡ K.faults output.old }
+    ensures no_read_failed { IsReadWhole result → (S.faults input.new ≡ S.faults input.old) × (F.faults files.new ≡ F.faults files.old) }
+    ensures unread { IsUnreadStatus result → S.left input.new ≡ S.left input.old }
+    ensures unwritten { IsEmptyNumber result → IfNoRounds (given_by words.now) (K.written output.new ≡ K.written output.old) }
 {
-    let status = match serve_capacity(words) {
-        Some(capacity) => serve(alloc, capacity, input, output),
-        None => Status::Words,
-    };
-    status.number()
+    run_words(rt, alloc, words, input, files, output)
 }
 
-// The command `serve 1 CAPACITY 0 1 0`.
-fn serve<S: Source, K: Sink>(alloc: Global, capacity: u16, input: &mut S, output: &mut K) -> Status
-    ensures leaves { Leaves (serve_parameters capacity) (record { left = S.left input.old; reads_failed = S.faults input.old; written = K.written output.old; flushed = K.flushed output.old; writes_failed = K.faults output.old })
-        (record { left = S.left input.new; reads_failed = S.faults input.new; written = K.written output.new; flushed = K.flushed output.new; writes_failed = K.faults output.new }) result }
-    ensures passed { (result ≡ Refused → ⊥) → ArePassed (serve_parameters capacity) }
+// The same, by all that a run leaves.
+fn run_words<R: Threads + Wait + Sync, S: Source, F: Files, K: Sink>(
+    rt: &R,
+    alloc: Global,
+    words: &[String],
+    input: &mut S,
+    files: &mut F,
+    output: &mut K,
+) -> u8
+    ensures runs { Runs (given_by words.now)
+        (world (S.left input.old) (S.faults input.old) (F.files files.old) (F.faults files.old) (K.written output.old) (K.flushed output.old) (K.faults output.old))
+        (world (S.left input.new) (S.faults input.new) (F.files files.new) (F.faults files.new) (K.written output.new) (K.flushed output.new) (K.faults output.new)) result }
 {
-    let params = Params::of(1, capacity, 0);
-    match check(&params) {
-        Ok(_) => serve_passed(alloc, &params, input, output),
-        Err(_) => Status::Parameters,
+    match lanes_of(alloc, words) {
+        Some(lanes) => serve_lanes(rt, alloc, &lanes, input, output),
+        None => run_plain(rt, alloc, words, input, files, output),
     }
 }
 
-// The same, with parameters that pass the check.
-fn serve_passed<S: Source, K: Sink>(
+// The parameters and the lanes of the command `serve`.
+#[derive(Clone, Copy)]
+struct Lanes {
+    params: Params,
+    shape: Shape,
+}
+
+// The lanes that words ask for, if they give `serve`.
+fn lanes_of(alloc: Global, words: &[String]) -> Option<Lanes>
+    ensures serve { IfSome result (λ lanes. IsServe (given_by words.now) (parameters_of lanes.params) lanes.shape.workers lanes.shape.builders) }
+    ensures other { IsNone result → IsNoServe (given_by words.now) }
+{
+    match read_words(alloc, words) {
+        Ok(
+            Command::Serve {
+                rows,
+                capacity,
+                units,
+                drop,
+                counted,
+                workers,
+                builders,
+            },
+        ) => Some(Lanes {
+            params: word_parameters(rows, capacity, units, drop, counted),
+            shape: Shape { workers, builders },
+        }),
+        _ => None,
+    }
+}
+
+// The command `serve`: the rounds of the input. One lane serves them today, whatever lanes the words ask for.
+fn serve_lanes<R: Threads + Wait + Sync, S: Source, K: Sink>(
+    rt: &R,
     alloc: Global,
-    params: &Params,
+    lanes: &Lanes,
     input: &mut S,
     output: &mut K,
-) -> Status
-    requires passed { ArePassed (parameters_of params.now) }
-    requires shape { parameters_of params.now ≡ serve_parameters params.now.capacity }
-    ensures leaves { Leaves (parameters_of params.now) (record { left = S.left input.old; reads_failed = S.faults input.old; written = K.written output.old; flushed = K.flushed output.old; writes_failed = K.faults output.old })
-        (record { left = S.left input.new; reads_failed = S.faults input.new; written = K.written output.new; flushed = K.flushed output.new; writes_failed = K.faults output.new }) result }
-    ensures served { result ≡ Refused → ⊥ }
+) -> u8
+    ensures { RunsRounds (parameters_of lanes.now.params) true
+        (ends (S.left input.old) (S.faults input.old) (K.written output.old) (K.flushed output.old) (K.faults output.old))
+        (ends (S.left input.new) (S.faults input.new) (K.written output.new) (K.flushed output.new) (K.faults output.new)) result }
 {
-    match replies(alloc, params, input) {
-        Ok(text) => match write_all(output, &text) {
-            Ok(()) => Status::Done,
-            Err(_) => Status::WriteFault,
-        },
-        Err(status) => status,
-    }
-}
-
-// The text of the replies to what a source has left.
-fn replies<S: Source>(alloc: Global, params: &Params, input: &mut S) -> Result<Vec<u8>, Status>
-    requires passed { ArePassed (parameters_of params.now) }
-    requires shape { parameters_of params.now ≡ serve_parameters params.now.capacity }
-    ensures answered { IfOk result (λ text. IfSome (S.left input.old) (λ bytes. IsAnswered (parameters_of params.now) bytes text.items)) }
-    ensures ended { OnOk result (IfSome (S.left input.old) (λ _. S.left input.new ≡ Some [])) }
-    ensures no_read_failed { OnOk result (S.faults input.new ≡ S.faults input.old) }
-    ensures fault { IfErr result (GivesUp (parameters_of params.now) (S.left input.old) (S.faults input.old) (S.faults input.new)) }
-{
-    match read_all(alloc, input, LIMIT) {
-        Ok(bytes) => match replies_to(alloc, params, &bytes) {
-            Ok(text) => Ok(text),
-            Err(fault) => Err(status_of_fault(fault)),
-        },
-        Err(fault) => Err(status_of_read(fault)),
-    }
-}
-
-// The status of a run whose source was not read to its end.
-fn status_of_read(fault: ReadFault) -> Status
-    ensures { result ≡ status_of_read fault }
-{
-    match fault {
-        ReadFault::Failed => Status::ReadFault,
-        ReadFault::TooLong => Status::BadInput,
-        ReadFault::NoMemory => Status::NoMemory,
-    }
-}
-
-// The status of a run whose input was not served.
-fn status_of_fault(fault: ServeFault) -> Status
-    ensures { result ≡ status_of_fault fault }
-{
-    match fault {
-        ServeFault::BadInput => Status::BadInput,
-        ServeFault::NoMemory => Status::NoMemory,
+    match check(&lanes.params) {
+        Ok(_) => serve_alone(rt, alloc, &lanes.params, input, output).status,
+        Err(_) => Status::Parameters.number(),
     }
 }

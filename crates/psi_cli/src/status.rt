@@ -1,11 +1,14 @@
-//! How a run ends.
+//! The statuses of the program.
 ghost use Rattle.std.specs.Prelude.{◌≡◌};
-ghost use Rattle.psi_cli.specs.Leaving.{line_of, number_of};
+ghost use Rattle.psi_cli.specs.Statuses.{number_of};
+ghost use Rattle.psi_cli.specs.declared.status.Status.TheVariants.{NoMemory};
 
-/// How a run of the program ends.
+use std::alloc::AllocError;
+
+/// How a run ends.
 #[derive(Clone, Copy)]
 pub enum Status {
-    /// All was done.
+    /// All that was asked for is done.
     Done,
     /// The words give no command.
     Words,
@@ -13,16 +16,18 @@ pub enum Status {
     Parameters,
     /// The input is none of the command.
     BadInput,
-    /// The source failed.
+    /// A read failed.
     ReadFault,
-    /// The sink failed.
+    /// A write or a flush failed.
     WriteFault,
     /// Memory ran out.
     NoMemory,
+    /// The items have no placement.
+    Crowded,
 }
 
 impl Status {
-    /// Its number, with which the program ends.
+    /// The number that the program ends with.
     pub fn number(self) -> u8
         ensures { result ≡ number_of self }
     {
@@ -34,22 +39,15 @@ impl Status {
             Status::ReadFault => 5,
             Status::WriteFault => 6,
             Status::NoMemory => 7,
+            Status::Crowded => 8,
         }
     }
 }
 
-/// The line on standard error for a status number, without its end; empty where there is none.
-pub fn status_line(status: u8) -> &'static str
-    ensures { result.now ≡ line_of status }
-{
-    match status {
-        2 => "psi: words not understood",
-        3 => "psi: parameters refused",
-        4 => "psi: bad input",
-        5 => "psi: read fault",
-        6 => "psi: write fault",
-        7 => "psi: no memory",
-        8 => "psi: items crowded",
-        _ => "",
+impl From<AllocError> for Status {
+    ghost from_gives = { λ _ status. status ≡ NoMemory };
+
+    fn from(_error: AllocError) -> Status {
+        Status::NoMemory
     }
 }

@@ -1,59 +1,177 @@
-//! The words and the status lines.
-use crate::status::status_line;
-use crate::words::serve_capacity;
+//! Whole runs over memory: the status and what was written.
+use crate::run::psi_run;
+use psi_outside::{MemoryFiles, MemorySink, MemorySource, Open};
+use psi_words::help_text;
 use std::alloc::{AllocError, Global};
+use std::sync::Wait;
 use std::test::Fail;
+use std::thread::Threads;
 
-fn strings(alloc: Global, texts: &[&str]) -> Result<Vec<String>, AllocError> {
-    let mut words = Vec::new(alloc);
-    for text in texts {
-        words.push(String::from_str(alloc, text)?)?;
+const SEED: &str = "000102030405060708090a0b0c0d0e0f101112131415161718191a1b1c1d1e1f";
+
+// Puts of the item abc, in session 1: number 1 without a label, and numbers 1 and 2 with ten bytes 01 and ten bytes 02.
+const PUT: &[u8] = b"\x00\x00\x00\x0b\x01\x00\x01\x00\x00\x00\x01\x03abc";
+
+const PUT_ONES: &[u8] =
+    b"\x00\x00\x00\x15\x01\x00\x01\x00\x00\x00\x01\x03abc\x01\x01\x01\x01\x01\x01\x01\x01\x01\x01";
+
+const PUT_TWOS: &[u8] =
+    b"\x00\x00\x00\x15\x01\x00\x01\x00\x00\x00\x02\x03abc\x02\x02\x02\x02\x02\x02\x02\x02\x02\x02";
+
+const DROP: &[u8] = b"\x00\x00\x00\x0b\x02\x00\x01\x00\x00\x00\x02\x03abc";
+
+// The replies to the first put, and to the drop behind it.
+const ADDED: &[u8] =
+    b"\x00\x00\x00\x0f\x81\x00\x01\x00\x00\x00\x01\x00\x00\x00\x00\x00\x00\x00\x00";
+
+const REMOVED: &[u8] =
+    b"\x00\x00\x00\x0f\x83\x00\x01\x00\x00\x00\x02\x00\x00\x00\x00\x00\x00\x00\x01";
+
+// What a run leaves: its status, and the bytes that it wrote.
+type Left = (u8, Vec<u8>);
+
+// A run on these words, this source, and a file `answer`.
+fn run<R: Threads + Wait + Sync>(
+    rt: &R,
+    alloc: Global,
+    words: &[&str],
+    bytes: &[u8],
+    answer: &[u8],
+) -> Result<Left, AllocError> {
+    let mut given = Vec::new(alloc);
+    for word in words {
+        given.push(String::from_str(alloc, word)?)?;
     }
-    Ok(words)
+    let mut files = Vec::new(alloc);
+    files.push((String::from_str(alloc, "answer")?, answer.to_vec(alloc)?))?;
+    let mut source = MemorySource::open(bytes.to_vec(alloc)?, 8192, Vec::new(alloc));
+    let mut sink = MemorySink::open(alloc, 131072, Vec::new(alloc))?;
+    let mut files = MemoryFiles::open(files, Vec::new(alloc));
+    let status = psi_run(rt, alloc, &given, &mut source, &mut files, &mut sink, &Open);
+    Ok((status, sink.bytes().to_vec(alloc)?))
 }
 
 #[test]
-fn one_command_is_served(rt: HostRuntime) -> Result<(), Fail> {
-    let alloc = rt.alloc();
-    let rows = [
-        ("1", Some(1)),
-        ("0", Some(0)),
-        ("2244", Some(2244)),
-        ("65535", Some(65535)),
-        ("65536", None),
-        ("01", None),
-        ("+1", None),
-        ("", None),
-        ("1 ", None),
+fn words_and_parameters_end_with_their_status(rt: HostRuntime) -> Result<(), Fail> {
+    let rows: [(&[&str], u8, &str); 11] = [
+        (&["serve", "1", "1", "0", "9", "0"], 2, ""),
+        (&["find", "1"], 2, ""),
+        (&["demo", "1", "1"], 2, ""),
+        (&["serve", "0", "1", "0", "1", "0"], 3, ""),
+        (&["help"], 0, help_text()),
+        (
+            &["params", "1", "2244", "0"],
+            0,
+            "\
+ciphertexts 2244
+query 183828488
+carry 602359971982
+noise 36015102917820702
+used 4720643599858264736316
+modulus 4722344527977019809793
+",
+        ),
+        (
+            &["params", "1", "2245", "0"],
+            3,
+            "refused noise 4722747273476240663100\n",
+        ),
+        (&["params", "1", "2401", "0"], 3, "refused size 2401 2402\n"),
+        (&["params", "1", "4096", "0"], 3, "refused range 2\n"),
+        (
+            &["form2", "0", "params", "1", "1", "0"],
+            3,
+            "refused range 0\n",
+        ),
+        (
+            &["counted", "params", "1", "1", "1"],
+            3,
+            "refused range 6\n",
+        ),
     ];
-    for (word, want) in rows {
-        let words = strings(alloc, &["serve", "1", word, "0", "1", "0"])?;
-        assert_eq!(rt; serve_capacity(&words), want, "{word}");
+    for (words, status, text) in rows {
+        let (found, written) = run(&rt, rt.alloc(), words, b"", b"")?;
+        assert_eq!(rt; found, status);
+        assert_eq!(rt; written.as_slice(), text.as_bytes());
     }
-    let short = strings(alloc, &["serve", "1", "1", "0", "1"])?;
-    assert_eq!(rt; serve_capacity(&short), None);
-    let long = strings(alloc, &["serve", "1", "1", "0", "1", "0", "0"])?;
-    assert_eq!(rt; serve_capacity(&long), None);
-    let workers = strings(alloc, &["serve", "1", "1", "0", "2", "0"])?;
-    assert_eq!(rt; serve_capacity(&workers), None);
+    Ok(())
+}
+
+// The zero query of session 1 with this number.
+fn zero_query(alloc: Global, number: u8) -> Result<Vec<u8>, AllocError> {
+    let mut bytes = b"\x00\x01\x40\x0f\x03\x00\x01\x00\x00\x00".to_vec(alloc)?;
+    bytes.extend_from_slice(&[number, 1, 1, 0, 1, 0, 0, 0, 0])?;
+    bytes.extend_from_slice(&vec![in alloc; 0; 81920]?)?;
+    Ok(bytes)
+}
+
+#[test]
+fn the_zero_query_of_the_empty_set_is_answered(rt: HostRuntime) -> Result<(), Fail> {
+    let alloc = rt.alloc();
+    let words = ["serve", "1", "1", "0", "1", "0"];
+    let (status, text) = run(&rt, alloc, &words, &zero_query(alloc, 1)?, b"")?;
+    assert_eq!(rt; status, 0);
+    assert_eq!(rt;
+        text.as_slice(),
+        b"\x00\x00\x00\x19\x86\x00\x01\x00\x00\x00\x01\x00\x00\x00\x00\x00\x00\x00\x00\x01\x01\x00\x01\x00\x00\x00\x00\x00\x00".as_slice()
+    );
+    Ok(())
+}
+
+// The reply to the zero query, number 3 at place 2, of one bundle without members: the scale in the first coefficient of c0, by
+// both residues, and zeros.
+fn emptied(alloc: Global) -> Result<Vec<u8>, AllocError> {
+    let mut text =
+        b"\x00\x01\x40\x19\x86\x00\x01\x00\x00\x00\x03\x00\x00\x00\x00\x00\x00\x00\x02\x01\x01\x00\x01\x00\x00\x00\x00\x00\x01".to_vec(
+            alloc,
+        )?;
+    text.extend_from_slice(b"\x04\x01\x4b\xb6\x9c")?;
+    text.extend_from_slice(&vec![in alloc; 0; 20475]?)?;
+    text.extend_from_slice(b"\x0e\x01\x1e\xb6\x9a")?;
+    text.extend_from_slice(&vec![in alloc; 0; 20475]?)?;
+    text.extend_from_slice(&vec![in alloc; 0; 40960]?)?;
+    Ok(text)
+}
+
+#[test]
+fn an_emptied_bundle_answers_the_scale(rt: HostRuntime) -> Result<(), Fail> {
+    let alloc = rt.alloc();
+    let mut bytes = PUT.to_vec(alloc)?;
+    bytes.extend_from_slice(DROP)?;
+    bytes.extend_from_slice(&zero_query(alloc, 3)?)?;
+    let (status, text) = run(&rt, alloc, &["replay", "1", "1", "0"], &bytes, b"")?;
+    let mut want = ADDED.to_vec(alloc)?;
+    want.extend_from_slice(REMOVED)?;
+    want.extend_from_slice(&emptied(alloc)?)?;
+    assert_eq!(rt; status, 0);
+    assert!(rt; text.as_slice() == want.as_slice());
     Ok(())
 }
 
 #[test]
-fn each_status_has_its_line(rt: HostRuntime) {
-    let rows: [(u8, &str); 10] = [
-        (0, ""),
-        (1, ""),
-        (2, "psi: words not understood"),
-        (3, "psi: parameters refused"),
-        (4, "psi: bad input"),
-        (5, "psi: read fault"),
-        (6, "psi: write fault"),
-        (7, "psi: no memory"),
-        (8, "psi: items crowded"),
-        (9, ""),
-    ];
-    for (status, line) in rows {
-        assert_eq!(rt; status_line(status), line);
-    }
+fn a_replaced_label_is_opened(rt: HostRuntime) -> Result<(), Fail> {
+    let alloc = rt.alloc();
+    let items = b"abc\nxyz\nabc";
+    let words = ["ask", "1", "1", "1", SEED, "1", "3"];
+    let (asked, query) = run(&rt, alloc, &words, items, b"")?;
+    assert_eq!(rt; asked, 0);
+    let mut bytes = PUT_ONES.to_vec(alloc)?;
+    bytes.extend_from_slice(PUT_TWOS)?;
+    bytes.extend_from_slice(&query)?;
+    let (served, replies) = run(&rt, alloc, &["serve", "1", "1", "1", "1", "0"], &bytes, b"")?;
+    assert_eq!(rt; served, 0);
+    let answer = replies.as_slice().get(38..).expect(&rt, "three replies");
+    let (opened, text) = run(
+        &rt,
+        alloc,
+        &["open", "1", "1", "1", SEED, "answer"],
+        items,
+        answer,
+    )?;
+    assert_eq!(rt; opened, 0);
+    assert_eq!(rt;
+        text.as_slice(),
+        b"616263 0 02020202020202020202\n".as_slice()
+    );
+    Ok(())
 }
