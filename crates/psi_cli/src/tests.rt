@@ -45,7 +45,7 @@ fn run<R: Threads + Wait + Sync>(
     let mut files = Vec::new(alloc);
     files.push((String::from_str(alloc, "answer")?, answer.to_vec(alloc)?))?;
     let mut source = MemorySource::open(bytes.to_vec(alloc)?, 8192, Vec::new(alloc));
-    let mut sink = MemorySink::open(alloc, 131072, Vec::new(alloc))?;
+    let mut sink = MemorySink::open(alloc, 262144, Vec::new(alloc))?;
     let mut files = MemoryFiles::open(files, Vec::new(alloc));
     let status = psi_run(rt, alloc, &given, &mut source, &mut files, &mut sink, &Open);
     Ok((status, sink.bytes().to_vec(alloc)?))
