@@ -10,7 +10,6 @@ ghost use Rattle.query_codec.specs.Ciphertexts.{AreBelow, AreCiphertexts, IsFirs
 
 use crate::fault::CodecFault;
 use bfv_core::Ciphertext;
-use byteorder::{BigEndian, ByteOrder};
 use psi_residue::{N, Q1, Q2};
 use std::alloc::{AllocError, Global};
 
@@ -83,7 +82,10 @@ fn residue(bytes: &[u8], i: usize) -> u64
     requires { 5 * (i + 1) ≤ length bytes.now }
     ensures { result ≡ residue_in bytes.now i }
 {
-    BigEndian::read_uint(&bytes[RESIDUE_BYTES * i..], RESIDUE_BYTES)
+    let bytes = &bytes[RESIDUE_BYTES * i..];
+    let high = u64::from(bytes[0]) * 16777216 + u64::from(bytes[1]) * 65536;
+    let low = u64::from(bytes[2]) * 65536 + u64::from(bytes[3]) * 256 + u64::from(bytes[4]);
+    high * 256 + low
 }
 
 // The modulus of residue number `i`: the lists go by the two moduli in turn.
