@@ -1,13 +1,13 @@
 -- What a feed has of the bytes that came, step by step.
-use Rattle.std.proofs.Common.{◌≡◌, inl, inr, ℕ, ◌+◌, ◌<◌, ◌≤◌, Bool, List, [], ◌∷◌, ◌++◌, length, slice_index, Option, None, Some, refl, sym, ap, subst, ◌∙◌, arith, append_assoc, length-append}
-use Rattle.std.proofs.lemmas.List.{append-nil, take_all}
+use Rattle.std.proofs.Common.{◌≡◌, ℕ, ◌+◌, ◌<◌, ◌≤◌, Bool, List, [], ◌∷◌, ◌++◌, length, slice_index, Option, None, Some, refl, sym, ap, subst, ◌∙◌, arith, append_assoc, length-append}
+use Rattle.std.proofs.lemmas.List.{append-nil}
 use Rattle.std.proofs.lemmas.List.Concat.{flat_map-append}
 use Rattle.std.proofs.lemmas.List.Elements.{All-append, All-cons, All-push, All-same}
 use Rattle.std.specs.List.{All}
 use Rattle.byteorder.specs.Endian.{big_number}
 use Rattle.psi_frames.specs.declared.frame.Frame.{Frame}
-use Rattle.psi_frames.specs.Frames.{AreWholeFrames, Fault, IsFrame, Table, frame_bytes, frames_bytes, front_fault, most_bytes}
-use Rattle.psi_frames.specs.Feeds.{Feeding, HasFed, IsCut, end_fault, table_of}
+use Rattle.psi_frames.specs.Frames.{Fault, IsFrame, Table, frame_bytes, frames_bytes, front_fault}
+use Rattle.psi_frames.specs.Feeds.{Feeding, IsCut, table_of}
 use Rattle.psi_frames.specs.Cuts.{BeginsWhole, IsTaken, TakesIn}
 use Rattle.psi_frames.specs.FrontFrames.{front_frame}
 use Rattle.psi_frames.proofs.Bytes.{byte-front, byte-rest}
@@ -75,34 +75,6 @@ stays-faulty table bytes frames rest piece fault fed = record {
 pub no_fault : (table : Table) → front_fault table [] ≡ None
 unfolding front_fault
 no_fault table = refl
-
--- what a feed has, and what its bytes end with, are the whole frames of the bytes and the fault behind them
-pub whole_frames : (f : Feeding) (bytes : List ℕ) (taken : List Frame) → HasFed f bytes taken → length bytes ≤ most_bytes
-    → AreWholeFrames (table_of f.replies) bytes (taken ++ f.ready) (end_fault f.fault f.rest)
-whole_frames f bytes taken fed short = ends (table_of f.replies) bytes (taken ++ f.ready) f.rest f.fault fed short where
-  ends : (table : Table) (bytes : List ℕ) (frames : List Frame) (rest : List ℕ) (fault : Option Fault) → IsCut table bytes frames rest fault → length bytes ≤ most_bytes
-      → AreWholeFrames table bytes frames (end_fault fault rest)
-  ends table bytes frames rest (Some fault) cut short = record {
-    rest = cut.tail;
-    whole = take_all most_bytes bytes short ∙ cut.whole;
-    each = cut.each;
-    first = cut.ended.0;
-    ended = λ e. absurd (cc);
-  }
-  ends table bytes frames [] None cut short = record {
-    rest = [];
-    whole = take_all most_bytes bytes short ∙ cut.whole ∙ ap (λ (t : List ℕ). frames_bytes frames ++ t) cut.ended.0;
-    each = cut.each;
-    first = no_fault table;
-    ended = λ _. refl;
-  }
-  ends table bytes frames (b ∷ bs) None cut short = record {
-    rest = b ∷ bs;
-    whole = take_all most_bytes bytes short ∙ cut.whole ∙ ap (λ (t : List ℕ). frames_bytes frames ++ t) cut.ended.0;
-    each = cut.each;
-    first = elim cut.ended.1 [ inl none ↦ absurd (omega (arith, ap length none)) | inr e ↦ e ];
-    ended = λ e. absurd (cc);
-  }
 
 -- the frame that a piece makes whole, and those behind it
 pub cut-front : (replies : Bool) (begun more behind : List ℕ) (frames : List Frame) (rest : List ℕ) (fault : Option Fault) → BeginsWhole (table_of replies) (begun ++ (more ++ behind))

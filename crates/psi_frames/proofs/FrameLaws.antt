@@ -2,7 +2,7 @@
 use Rattle.std.proofs.Common.{◌≡◌, ℕ, ◌+◌, ◌%◌, ◌^◌, ◌<◌, ◌≤◌, List, [], ◌∷◌, ◌++◌, length, take, drop, slice_index, refl, sym, ap, ◌∙◌, arith, append_assoc, length-append, length-drop}
 use Rattle.std.proofs.Math.Nat.{mod-eq_of_lt}
 use Rattle.std.proofs.Math.Seq.{drop-append_seam, take-append_seam}
-use Rattle.std.proofs.lemmas.List.{take-append-drop, drop-drop, length-take-le, get_or-drop, append-nil}
+use Rattle.std.proofs.lemmas.List.{take-append-drop, drop-drop, length-take-le, get_or-drop}
 use Rattle.std.proofs.lemmas.List.Elements.{All-head, All-tail, All-take, All-drop, All-from_get_or}
 use Rattle.std.specs.List.{All}
 use Rattle.byteorder.specs.Endian.{big_number, big_bytes}
@@ -102,11 +102,6 @@ IsSpellable-front_frame bytes least most whole each =
       length = omega arith;
     }
 
--- nothing is the text of no frames alone
-pub no_frames : (fs : List Frame) → frames_bytes fs ≡ [] → fs ≡ []
-no_frames [] e = refl
-no_frames (f ∷ fs) e = absurd (omega (arith, ap length e, length-frame_append f (frames_bytes fs)))
-
 -- Where the text of some frames is the front of the text of others, they are the first of these, and the rest is the text of the others of these.
 pub same_front : (vs fs : List Frame) (rest : List ℕ) → All IsSpellable vs → All IsSpellable fs → frames_bytes vs ++ rest ≡ frames_bytes fs
     → (gs : List Frame) × (fs ≡ vs ++ gs) × (rest ≡ frames_bytes gs)
@@ -118,10 +113,3 @@ same_front (v ∷ vs) (f ∷ fs) rest each_v each_f e =
     let one = one_frame v f (frames_bytes vs ++ rest) (frames_bytes fs) (All-head IsSpellable v vs each_v) (All-head IsSpellable f fs each_f) whole in
     let more = same_front vs fs rest (All-tail IsSpellable v vs each_v) (All-tail IsSpellable f fs each_f) one.1 in
     (more.0, (λ i. sym one.0 i ∷ more.1 i), more.2)
-
--- no bytes are the text of two lists of frames
-pub same_frames : (fs gs : List Frame) → All IsSpellable fs → All IsSpellable gs → frames_bytes fs ≡ frames_bytes gs → fs ≡ gs
-same_frames fs gs each_f each_g e =
-    let front = same_front fs gs [] each_f each_g (append-nil (frames_bytes fs) ∙ e) in
-    let none = no_frames front.0 (sym front.2) in
-    sym (front.1 ∙ ap (λ (hs : List Frame). fs ++ hs) none ∙ append-nil fs)

@@ -1,6 +1,6 @@
 -- What stands at the front of bytes: what each case tells, and that more bytes do not change a fault.
-use Rattle.std.proofs.Common.{◌≡◌, ◌⊎◌, inl, inr, ℕ, ◌+◌, ◌-◌, ◌^◌, ◌<◌, ◌≤◌, Bool, true, false, ◌&&◌, not, nat_eq, nat_lt, nat_le, List, [], ◌∷◌, ◌++◌, length, take, drop, slice_index, Option, None, Some, refl, sym, ap, ◌∙◌, arith, length-append, length-drop, if◌then◌else◌}
-use Rattle.std.proofs.lemmas.Bool.{eqb-false, leb-true, eqb-true, ne_eqb, lt-ltb, le-ltb, ltb-true, ltb-false, and_parts, and_cases, not-false}
+use Rattle.std.proofs.Common.{◌≡◌, ◌⊎◌, inl, inr, ℕ, ◌+◌, ◌-◌, ◌^◌, ◌<◌, ◌≤◌, Bool, true, false, ◌&&◌, not, nat_eq, nat_lt, nat_le, List, [], ◌++◌, length, take, drop, slice_index, Option, None, Some, refl, sym, ap, ◌∙◌, arith, length-append, length-drop, if◌then◌else◌}
+use Rattle.std.proofs.lemmas.Bool.{eqb-false, leb-true, eqb-true, ne_eqb, le-ltb, ltb-true, ltb-false, and_parts, and_cases, not-false}
 use Rattle.std.proofs.lemmas.List.{get_or_append_left, append-nil, nil_from_length, length-take-le}
 use Rattle.byteorder.specs.Endian.{big_number}
 use Rattle.byteorder.specs.Numbers.{big_from-append}
@@ -35,19 +35,6 @@ as_tested table bytes = refl
 some_bytes : (bytes : List ℕ) → 0 < length bytes → nat_eq (length bytes) 0 ≡ false
 some_bytes bytes some = ne_eqb (length bytes) 0 (λ e. omega arith)
 
--- what begins a frame, by its number of bytes
-
-pub begun-few : (table : Table) (bytes : List ℕ) → length bytes < 4 → IsBegun table bytes
-begun-few table [] few = inl refl
-begun-few table (b ∷ bytes) few =
-    let z = some_bytes (b ∷ bytes) (omega arith) in
-    let s : nat_lt (length (b ∷ bytes)) 4 ≡ true = lt-ltb (length (b ∷ bytes)) 4 few in
-    let word = big_number 4 (b ∷ bytes) in
-    let kind = slice_index (b ∷ bytes) 4 in
-    inr (as_tested table (b ∷ bytes) ∙ by_few (nat_eq (length (b ∷ bytes)) 0) (nat_lt (length (b ∷ bytes)) 4) (is_frame_length table word) (nat_lt (length (b ∷ bytes)) 5) (table.has_kind kind) (is_long_go kind word) (nat_lt (length (b ∷ bytes)) (4 + word)) word kind z s) where
-      by_few : (z s l h k g c : Bool) (n m : ℕ) → z ≡ false → s ≡ true → tested z s l h k g c n m ≡ Some Short
-      by_few z s l h k g c n m p q = rw (p, q) refl
-
 -- there are bytes of a length word, and it is none of the table
 pub fault-length : (table : Table) (bytes : List ℕ) → 4 ≤ length bytes → is_frame_length table (big_number 4 bytes) ≡ false
     → front_fault table bytes ≡ Some (Length (big_number 4 bytes))
@@ -57,17 +44,6 @@ fault-length table bytes four l =
     as_tested table bytes ∙ by_length _ _ _ _ _ _ _ _ _ z s l where
       by_length : (z s l h k g c : Bool) (n m : ℕ) → z ≡ false → s ≡ false → l ≡ false → tested z s l h k g c n m ≡ Some (Length n)
       by_length z s l h k g c n m p q r = rw (p, q, r) refl
-
--- the length word is one, and there is no kind yet
-pub begun-headless : (table : Table) (bytes : List ℕ) → 4 ≤ length bytes → is_frame_length table (big_number 4 bytes) ≡ true → length bytes < 5
-    → IsBegun table bytes
-begun-headless table bytes four l few =
-    let z = some_bytes bytes (omega arith) in
-    let s = le-ltb (length bytes) 4 four in
-    let h = lt-ltb (length bytes) 5 few in
-    inr (as_tested table bytes ∙ by_headless _ _ _ _ _ _ _ _ _ z s l h) where
-      by_headless : (z s l h k g c : Bool) (n m : ℕ) → z ≡ false → s ≡ false → l ≡ true → h ≡ true → tested z s l h k g c n m ≡ Some Short
-      by_headless z s l h k g c n m p q r t = rw (p, q, r, t) refl
 
 -- the kind is none of the table
 pub fault-kind : (table : Table) (bytes : List ℕ) → 5 ≤ length bytes → is_frame_length table (big_number 4 bytes) ≡ true → table.has_kind (slice_index bytes 4) ≡ false
@@ -90,18 +66,6 @@ fault-go table bytes five l k g =
     as_tested table bytes ∙ by_go _ _ _ _ _ _ _ _ _ z s l h k g where
       by_go : (z s l h k g c : Bool) (n m : ℕ) → z ≡ false → s ≡ false → l ≡ true → h ≡ false → k ≡ true → g ≡ true → tested z s l h k g c n m ≡ Some (Length n)
       by_go z s l h k g c n m p q r t u v = rw (p, q, r, t, u, v) refl
-
--- no fault, and the frame is cut
-pub begun-cut : (table : Table) (bytes : List ℕ) → 5 ≤ length bytes → is_frame_length table (big_number 4 bytes) ≡ true → table.has_kind (slice_index bytes 4) ≡ true
-    → is_long_go (slice_index bytes 4) (big_number 4 bytes) ≡ false → length bytes < 4 + big_number 4 bytes → IsBegun table bytes
-begun-cut table bytes five l k g few =
-    let z = some_bytes bytes (omega arith) in
-    let s = le-ltb (length bytes) 4 (omega arith) in
-    let h = le-ltb (length bytes) 5 five in
-    let c = lt-ltb (length bytes) (4 + big_number 4 bytes) few in
-    inr (as_tested table bytes ∙ by_cut _ _ _ _ _ _ _ _ _ z s l h k g c) where
-      by_cut : (z s l h k g c : Bool) (n m : ℕ) → z ≡ false → s ≡ false → l ≡ true → h ≡ false → k ≡ true → g ≡ false → c ≡ true → tested z s l h k g c n m ≡ Some Short
-      by_cut z s l h k g c n m p q r t u v w = rw (p, q, r, t, u, v, w) refl
 
 -- no fault, and the frame is whole
 pub begins-whole : (table : Table) (bytes : List ℕ) → 5 ≤ length bytes → is_frame_length table (big_number 4 bytes) ≡ true → table.has_kind (slice_index bytes 4) ≡ true

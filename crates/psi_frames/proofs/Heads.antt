@@ -44,13 +44,6 @@ frame-joined h body eleven exact =
     sym (ap (λ (t : List ℕ). take (big_number 4 (h ++ body) - head_bytes) t) (drop_at h body 11 eleven) ∙ take_all (big_number 4 (h ++ body) - head_bytes) body (omega (arith, size))) in
     λ i. record { kind = kind i; session = session i; number = number i; body = all i }
 
--- a frame that has eleven bytes has its whole head
-pub eleven-joined : (h body : List ℕ) → length h ≤ 11 → (length h < 11 → body ≡ []) → 11 ≤ length (h ++ body) → length h ≡ 11
-eleven-joined h body most none long = elim (cases_lt (length h) 11) [
-  | inl few ↦ absurd (omega (arith, few, long, length-append h body, ap length (none few)))
-  | inr eleven ↦ omega (arith, most, eleven)
-]
-
 -- bytes that come behind a frame that has begun: first its head is filled
 pub parts-extended : (h body piece first more : List ℕ) (room : ℕ) → room ≡ min (11 - length h) (length piece) → first ≡ take room piece → more ≡ drop room piece → AreParts h body
     → ((i : ℕ) → slice_index piece i < 256) → AreParts (h ++ first) (body ++ more)

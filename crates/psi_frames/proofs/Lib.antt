@@ -1,6 +1,4 @@
 pub mod FrameLaws
-pub mod WholeFrames
-pub mod RoundLaws
 pub mod Spelled
 pub mod Turns
 pub mod Each

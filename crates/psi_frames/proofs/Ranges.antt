@@ -12,10 +12,6 @@ abbrev pub RisesFrom : ℕ → List ℕ → Type 0
 RisesFrom low [] = ⊤
 RisesFrom low (x ∷ xs) = (low ≤ x) × RisesFrom (x + 1) xs
 
--- numbers from low on and below low + n
-abbrev pub IsWithin : ℕ → ℕ → ℕ → Type 0
-IsWithin low n x = (low ≤ x) × (x < low + n)
-
 -- as many of them have room
 rises-fit : (low high : ℕ) (xs : List ℕ) → RisesFrom low xs → AllByRecursion (λ x. x < high) xs → low ≤ high → low + length xs ≤ high
 rises-fit low high [] rises below le = omega (arith, le)

@@ -1,6 +1,6 @@
 -- Replies are read back from their frames, and each row of their table is a reply.
-use Rattle.std.proofs.Common.{◌≡◌, inl, inr, ℕ, ◌+◌, ◌^◌, ◌<◌, ◌≤◌, Bool, true, false, ◌&&◌, nat_eq, nat_le, List, [], ◌++◌, length, drop, slice_index, refl, sym, ap, subst, ◌∙◌, arith, append_assoc, length-append, length-drop, if◌then◌else◌}
-use Rattle.std.proofs.lemmas.Bool.{and_parts, cases_eq, eqb-true, false_from_ne_true, false≢true, le-leb, leb-true, ne_eqb}
+use Rattle.std.proofs.Common.{◌≡◌, inl, inr, ℕ, ◌+◌, ◌^◌, ◌<◌, ◌≤◌, Bool, true, false, ◌&&◌, nat_eq, nat_le, List, [], ◌++◌, length, drop, slice_index, refl, sym, ap, subst, ◌∙◌, arith, append_assoc, length-drop, if◌then◌else◌}
+use Rattle.std.proofs.lemmas.Bool.{and_parts, cases_eq, eqb-true, false_from_ne_true, false≢true, leb-true, ne_eqb}
 use Rattle.std.proofs.lemmas.List.{drop-drop, take-append-drop, take_all}
 use Rattle.byteorder.specs.Endian.{big_bytes, big_number}
 use Rattle.byteorder.specs.Numbers.{big_from-lt, big_number-reads_back}
@@ -42,22 +42,7 @@ again (reply.Moved place from stamp) range =
     λ i. reply.Moved (p i) (q i) (s i)
 again (reply.Refused code) range = let p = big_number-reads_back 1 code [] range in ap (λ (n : ℕ). reply.Refused n) (omega (arith, p))
 
--- its kind and the length of its body are a row
-row : (r : Reply) → is_reply_row (reply_kind r) (length (reply_content r)) ≡ true
-row (reply.Added place) = refl
-row (reply.Replaced place) = refl
-row (reply.Removed place) = refl
-row (reply.Absent place) = refl
-row (reply.Full place planes cells) = refl
-row (reply.Answer place body) = le-leb 8 (length (big_bytes 8 place ++ body)) (omega (arith, length-append (big_bytes 8 place) body))
-row (reply.Repacked place from before after) = refl
-row (reply.Moved place from stamp) = refl
-row (reply.Refused code) = refl
-
--- a frame that tells a reply is a row, and tells this reply alone
-pub tells-row : (kind : ℕ) (body : List ℕ) (r : Reply) → Tells kind body r → is_reply_row kind (length body) ≡ true
-tells-row kind body r tells = (λ i. is_reply_row (sym tells.same_kind i) (length (sym tells.same_body i))) ∙ row r
-
+-- a frame tells one reply alone
 pub tells-again : (kind : ℕ) (body : List ℕ) (r : Reply) → Tells kind body r → told_reply kind body ≡ r
 tells-again kind body r tells = (λ i. told_reply (sym tells.same_kind i) (sym tells.same_body i)) ∙ again r tells.range
 

@@ -1,11 +1,11 @@
 -- The requests of a round: each fits the parameters, there are no more than frames, and few are Asks.
-use Rattle.std.proofs.Common.{◌≡◌, ℕ, suc, ◌+◌, ◌-◌, ◌*◌, ◌<◌, ◌≤◌, Bool, true, false, not, nat_eq, nat_lt, nat_le, List, [], ◌∷◌, ◌++◌, length, take, drop, slice_index, Option, None, Some, IfSome, refl, sym, ap, ◌∙◌, arith, append_assoc, if◌then◌else◌}
+use Rattle.std.proofs.Common.{◌≡◌, ℕ, suc, ◌+◌, ◌-◌, ◌*◌, ◌<◌, ◌≤◌, Bool, true, false, not, ◌||◌, nat_eq, nat_lt, nat_le, List, [], ◌∷◌, ◌++◌, length, take, drop, slice_index, Option, None, Some, IfSome, refl, sym, ap, ◌∙◌, arith, append_assoc, if◌then◌else◌}
 use Rattle.std.proofs.lemmas.Bool.{eqb-true, ltb-true, leb-false}
 use Rattle.std.proofs.lemmas.List.{append-nil, length-take-le}
 use Rattle.std.proofs.lemmas.List.Elements.{All-cons, All-nil}
 use Rattle.std.proofs.lemmas.List.Sums.{sum_by-cons}
 use Rattle.std.proofs.lemmas.List.FromFn.{length-map-range_with_len}
-use Rattle.std.specs.List.{All}
+use Rattle.std.specs.List.{All, list_any}
 use Rattle.psi_residue.specs.Parameters.{Parameters}
 use Rattle.item_slots.specs.Tags.{tag_of}
 use Rattle.psi_bundle.specs.Versions.{HasLabelLength, has_label_length}
@@ -18,8 +18,7 @@ use Rattle.psi_frames.specs.declared.request.Request.{Request}
 use Rattle.psi_frames.specs.declared.request.Request.TheVariants as request
 use Rattle.psi_frames.specs.Frames.{ask_kind, drop_kind, go_kind, put_kind}
 use Rattle.psi_frames.specs.Requests.{IsFit, ask_code, ask_request, asks_behind, asks_of_round, code_of_fault, count_asks, counted, drop_code, drop_request, has_item, is_ask, item_of, label_of, put_code, put_request, repack_code, repack_request, request_of, requests_from, unless_coded, wrong_label, wrong_length, wrong_row}
-use Rattle.psi_frames.specs.Rounds.{IsRound, is_full}
-use Rattle.psi_frames.proofs.RoundLaws.{not_full-tells}
+use Rattle.psi_frames.specs.Rounds.{IsRound, is_full, is_go}
 
 -- a code that the bytes of a round decide
 abbrev IsByteCode : ℕ → Type 0
@@ -198,13 +197,22 @@ requests-one p asks f fs = by_go (nat_eq f.kind go_kind) refl where
       rw other refl
   by_go false is = refl
 
+-- frames that are not full are few
+few-open : (fs : List Frame) → is_full fs ≡ false → length fs < 4096
+unfolding is_full
+few-open fs short = leb-false 4096 (length fs) (by_number (list_any is_go fs) (nat_le 4096 (length fs)) _ short) where
+  by_number : (go many long : Bool) → (go || (many || long)) ≡ false → many ≡ false
+  by_number true many long e = absurd (cc)
+  by_number false true long e = absurd (cc)
+  by_number false false long e = refl
+
 -- a round has at most 4096 frames
 pub round-few : (fs : List Frame) → IsRound fs → length fs ≤ 4096
 round-few fs round =
     let some = round.some in
     let n = length fs - 1 in
-    let front = not_full-tells (take n fs) (round.first_full n (omega arith)) in
-    omega (arith, front.0, length-take-le n fs (omega arith))
+    let few = few-open (take n fs) (round.first_full n (omega arith)) in
+    omega (arith, few, length-take-le n fs (omega arith))
 
 -- What was read and what is left are all requests of the frames.
 pub record Reads (p : Parameters) (asks : ℕ) (left : List Frame) (read : List Request) (frames : List Frame) : Type 0 where

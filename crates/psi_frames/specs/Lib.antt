@@ -3,7 +3,6 @@ pub mod Requests
 pub mod Rounds
 pub mod Served
 pub mod OneLane
-pub mod Inputs
 pub mod FrontFrames
 pub mod Feeds
 pub mod Cuts

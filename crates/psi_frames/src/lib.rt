@@ -15,12 +15,10 @@ mod front;
 mod head;
 mod laws;
 mod number;
-mod reading;
 mod reply;
 mod request;
 mod round_requests;
 mod round_size;
-mod rounds;
 #[cfg(test)]
 mod tests;
 mod writing;
@@ -34,10 +32,8 @@ pub use crate::laws::{
     no_reply_begins_another, no_request_begins_another, one_text_is_of_one_lane,
     pieces_do_not_matter,
 };
-pub use crate::reading::{FramesFault, whole_frames};
 pub use crate::reply::Reply;
 pub use crate::request::{Request, read_request};
 pub use crate::round_requests::requests_of_round;
 pub use crate::round_size::RoundSize;
-pub use crate::rounds::is_one_round;
 pub use crate::writing::{write_answer, write_request};

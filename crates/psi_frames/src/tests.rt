@@ -93,6 +93,15 @@ fn pieces_of_any_size_give_the_same_frames(rt: HostRuntime) {
     pieces_do_not_matter();
 }
 
+#[test]
+fn a_frame_before_a_cut_one_is_taken(rt: HostRuntime) {
+    let bytes = b"\x00\x00\x00\x07\x03\x00\x01\x00\x00\x00\x02\x00\x00\x00\x07\x03";
+    let mut feed = fed(rt.alloc(), bytes, 16).ok().expect(&rt, "no fault");
+    assert!(rt; feed.finish().err() == Some(FrameFault::Short));
+    assert_next(&rt, &mut feed, 3, 1, 2, b"");
+    assert!(rt; feed.next().is_none());
+}
+
 // A frame of the session 1 with the number 1, and a body of so many zeros.
 fn frame(alloc: Global, kind: u8, len: usize) -> Result<Frame, AllocError>
     ensures { IfOk result (λ f. f ≡ record { kind = kind; session = 1; number = 1; body = replicate len 0 }) }
