@@ -1,7 +1,7 @@
 -- A row whose bundles are changed one after another.
 use Rattle.std.specs.Prelude.{◌≡◌, ℕ, zero, suc, ◌+◌, ◌%◌, ◌/◌, ◌<◌, List, [], ◌∷◌, length, map, slice_index_or, slice_set}
 use Rattle.std.proofs.Common.{refl, sym, ap, ◌∙◌, subst, arith, add-one}
-use Rattle.std.proofs.lemmas.List.{set-set, set-get_or, get_or-set_same}
+use Rattle.std.proofs.lemmas.List.{set-set, get_or-set_same}
 use Rattle.item_slots.specs.Tags.{bins_of_row}
 use Rattle.psi_bundle.specs.Versions.{changed_at}
 use Rattle.sender_core.specs.declared.rows.Change.{Change}
@@ -35,9 +35,6 @@ module _ {C : Type 0} (stamp b : ℕ) (c : Change) (tag : List ℕ) (first : Lis
   -- the rows where the first n bundles of row r are changed
   abbrev pub changed_to : ℕ → List (List (Kept C))
   changed_to n = slice_set first r (front_changed (changed_bundle stamp b c tag) n (kept_row first r))
-
-  pub changed-none : first ≡ changed_to 0
-  changed-none = sym (set-get_or first r [])
 
   written : r < length first → (n : ℕ) → kept_row (changed_to n) r ≡ front_changed (changed_bundle stamp b c tag) n (kept_row first r)
   written within n = get_or-set_same first r _ [] within

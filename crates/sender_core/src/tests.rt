@@ -6,17 +6,29 @@ ghost use Rattle.sender_core.specs.Given.{IsJobOf, IsViewOf};
 ghost use Rattle.sender_core.specs.Tries.{job_of};
 
 use crate::{
-    Answer, Bare, Book, DropAnswer, Install, Now, Put, RepackAnswer, RowView, Sight, Task,
+    Answer, Bare, Book, DropAnswer, Install, Now, Put, Refusal, RepackAnswer, RowView, Sight, Task,
 };
 use item_slots::{Tag, tag_from};
 use noise_ledger::{Params, check};
 use psi_bundle::{Label, NoCache};
 use std::alloc::Global;
+use std::process::Abort;
 
-// A made-up tag: five slot values and three numbers, each below 256.
-fn made_up(slots: [u8; 5], places: [u8; 3]) -> Tag {
-    let [a, b, c, d, e] = slots;
-    let [x, y, z] = places;
+// Five slot values and three numbers of a made-up tag, each below 256.
+type Made = ([u8; 5], [u8; 3]);
+
+const A: Made = ([1, 2, 3, 4, 5], [0, 0, 0]);
+
+// It has the slot values of `A`.
+const D: Made = ([1, 2, 3, 4, 5], [0, 0, 1]);
+
+const B: Made = ([6, 7, 8, 9, 10], [0, 0, 0]);
+
+const C: Made = ([11, 12, 13, 14, 15], [5, 5, 5]);
+
+// The tag with these values and numbers.
+fn made_up(made: Made) -> Tag {
+    let ([a, b, c, d, e], [x, y, z]) = made;
     tag_from([
         0, a, 0, b, 0, c, 0, d, 0, e, 0, 0, 0, x, 0, 0, 0, y, 0, 0, 0, z,
     ])
@@ -36,16 +48,29 @@ fn open_book(alloc: Global, capacity: u16) -> Option<Book<NoCache>>
 }
 
 // Puts a tag with the empty label, and answers with the entry's place.
-fn put(book: &mut Book<NoCache>, alloc: Global, tag: Tag) -> Option<(Put, u64)>
+fn put(book: &mut Book<NoCache>, alloc: Global, tag: Tag) -> Result<(Put, u64), Refusal>
     requires { book.old.parameters.units ≡ 0 }
     ensures parameters { book.new.parameters ≡ book.old.parameters }
     ensures jobs { (t : Job) → IsJobOf (start_of book.old) book.old.journal t → IsJobOf (start_of book.new) book.new.journal t }
     ensures views { (v : RowSight (List (List Member))) → IsViewOf (start_of book.old) book.old.journal v → IsViewOf (start_of book.new) book.new.journal v }
 {
-    let label = Label::of(b"")?;
+    let Some(label) = Label::of(b"") else {
+        return Err(Refusal::NoMemory);
+    };
     match book.put(alloc, tag, label) {
-        Ok(placed) => Some((placed.answer, placed.place)),
-        Err(_) => None,
+        Ok(placed) => Ok((placed.answer, placed.place)),
+        Err(refusal) => Err(refusal),
+    }
+}
+
+// Drops a tag, and answers with the entry's place.
+fn drop_tag(book: &mut Book<NoCache>, alloc: Global, tag: Tag) -> Result<(DropAnswer, u64), Refusal>
+    ensures parameters { book.new.parameters ≡ book.old.parameters }
+    ensures views { (v : RowSight (List (List Member))) → IsViewOf (start_of book.old) book.old.journal v → IsViewOf (start_of book.new) book.new.journal v }
+{
+    match book.drop_tag(alloc, tag) {
+        Ok(placed) => Ok((placed.answer, placed.place)),
+        Err(refusal) => Err(refusal),
     }
 }
 
@@ -61,57 +86,73 @@ fn stands(book: &Book<NoCache>, bin: u16, tag: &Tag) -> [Option<(u64, bool)>; 3]
     })
 }
 
-#[test]
-fn a_bin_that_is_full_opens_a_bundle(rt: HostRuntime) {
-    let alloc = rt.alloc();
-    let mut book = open_book(alloc, 1).expect(&rt, "opened");
-    let a = made_up([1, 2, 3, 4, 5], [0, 0, 0]);
-    let b = made_up([6, 7, 8, 9, 10], [0, 0, 0]);
-    assert_eq!(rt; put(&mut book, alloc, a), Some((Put::Added, 0)));
-    assert_eq!(rt; put(&mut book, alloc, b), Some((Put::Added, 1)));
-    assert_eq!(rt;
-        stands(&book, 0, &b),
-        [Some((1, false)), Some((2, true)), None]
-    );
-    let dropped = book.drop_tag(alloc, a).ok().expect(&rt, "memory");
-    assert_eq!(rt; dropped.answer, DropAnswer::Removed);
-    assert_eq!(rt;
-        stands(&book, 0, &a),
-        [Some((3, false)), Some((2, false)), None]
-    );
-    let c = made_up([11, 12, 13, 14, 15], [5, 5, 5]);
-    assert_eq!(rt; put(&mut book, alloc, c), Some((Put::Added, 3)));
-    assert_eq!(rt;
-        stands(&book, 5, &c),
-        [Some((4, true)), Some((2, false)), None]
-    );
-    assert!(rt; book.label(&a).is_none() && book.label(&b).is_some());
-    let again = book.drop_tag(alloc, a).ok().expect(&rt, "memory");
-    assert_eq!(rt; (again.answer, again.place), (DropAnswer::Absent, 4));
-    assert_eq!(rt; book.count(), 5);
+#[derive(Clone, Copy, Debug, PartialEq, Eq)]
+enum Answered {
+    Put(Put),
+    Drop(DropAnswer),
+}
+
+// Puts a tag, or drops it, and answers with the entry's place.
+fn call(book: &mut Book<NoCache>, alloc: Global, puts: bool, tag: Tag) -> Option<(Answered, u64)>
+    requires { book.old.parameters.units ≡ 0 }
+    ensures { book.new.parameters ≡ book.old.parameters }
+{
+    if puts {
+        let (answer, place) = put(book, alloc, tag).ok()?;
+        Some((Answered::Put(answer), place))
+    } else {
+        let (answer, place) = drop_tag(book, alloc, tag).ok()?;
+        Some((Answered::Drop(answer), place))
+    }
+}
+
+const ADDED: Answered = Answered::Put(Put::Added);
+
+const REPLACED: Answered = Answered::Put(Put::Replaced);
+
+const REMOVED: Answered = Answered::Drop(DropAnswer::Removed);
+
+const ABSENT: Answered = Answered::Drop(DropAnswer::Absent);
+
+// The tag of a call, what the call answers, and how the row's bundles stand then in some bin, by that tag.
+type Row = (Made, Answered, u16, [Option<(u64, bool)>; 3]);
+
+// Calls where a bin has one member.
+const FULL_BINS: [Row; 5] = [
+    (A, ADDED, 0, [Some((1, true)), None, None]),
+    (B, ADDED, 0, [Some((1, false)), Some((2, true)), None]),
+    (A, REMOVED, 0, [Some((3, false)), Some((2, false)), None]),
+    (C, ADDED, 5, [Some((4, true)), Some((2, false)), None]),
+    (A, ABSENT, 0, [Some((4, false)), Some((2, false)), None]),
+];
+
+// Calls where a bin has two members, no two of which share a slot value.
+const SHARED_SLOTS: [Row; 4] = [
+    (A, ADDED, 0, [Some((1, true)), None, None]),
+    (D, ADDED, 0, [Some((2, false)), Some((2, true)), None]),
+    (D, REPLACED, 1, [Some((3, true)), Some((3, false)), None]),
+    (A, REPLACED, 0, [Some((4, true)), Some((3, false)), None]),
+];
+
+// Makes the calls of a table in a new book.
+fn assert_run(rt: &impl Abort, alloc: Global, capacity: u16, rows: &[Row]) {
+    let mut book = open_book(alloc, capacity).expect(rt, "opened");
+    for (made, answer, bin, bundles) in rows {
+        let tag = made_up(*made);
+        let place = book.count();
+        let puts = matches!(answer, Answered::Put(_));
+        assert_eq!(rt; call(&mut book, alloc, puts, tag), Some((*answer, place)));
+        assert_eq!(rt; book.label(&tag).is_some(), puts);
+        assert!(rt; *bin < 819);
+        assert_eq!(rt; stands(&book, *bin, &tag), *bundles, "entry {place}");
+    }
+    assert_eq!(rt; book.count(), rows.len() as u64);
 }
 
 #[test]
-fn shared_slots_part_bundles(rt: HostRuntime) {
-    let alloc = rt.alloc();
-    let mut book = open_book(alloc, 2).expect(&rt, "opened");
-    let a = made_up([1, 2, 3, 4, 5], [0, 0, 0]);
-    let b = made_up([1, 2, 3, 4, 5], [0, 0, 1]);
-    assert_eq!(rt; put(&mut book, alloc, a), Some((Put::Added, 0)));
-    assert_eq!(rt; put(&mut book, alloc, b), Some((Put::Added, 1)));
-    assert_eq!(rt;
-        stands(&book, 0, &b),
-        [Some((2, false)), Some((2, true)), None]
-    );
-    assert_eq!(rt;
-        stands(&book, 1, &b),
-        [Some((2, true)), Some((2, false)), None]
-    );
-    assert_eq!(rt; put(&mut book, alloc, a), Some((Put::Replaced, 2)));
-    assert_eq!(rt;
-        stands(&book, 0, &a),
-        [Some((3, true)), Some((2, false)), None]
-    );
+fn calls_are_steps(rt: HostRuntime) {
+    assert_run(&rt, rt.alloc(), 1, &FULL_BINS);
+    assert_run(&rt, rt.alloc(), 2, &SHARED_SLOTS);
 }
 
 #[test]
@@ -120,15 +161,15 @@ fn a_set_is_full_at_its_planes(rt: HostRuntime) {
     let mut book = open_book(alloc, 1).expect(&rt, "opened");
     book.reserve(alloc, 66).ok().expect(&rt, "memory");
     for i in 0..64u8 {
-        let answer = put(&mut book, alloc, made_up([i; 5], [0; 3]));
-        assert_eq!(rt; answer, Some((Put::Added, u64::from(i))));
+        let answer = put(&mut book, alloc, made_up(([i; 5], [0; 3])));
+        assert_eq!(rt; answer.ok(), Some((Put::Added, u64::from(i))));
     }
     let full = Put::Full {
         planes: 65,
         cells: 130,
     };
     assert_eq!(rt;
-        put(&mut book, alloc, made_up([64; 5], [0; 3])),
+        put(&mut book, alloc, made_up(([64; 5], [0; 3]))).ok(),
         Some((full, 64))
     );
     let shown = book.ask(alloc).ok().expect(&rt, "memory");
@@ -175,8 +216,6 @@ fn bring(
     task: &Task,
 ) -> Option<(u16, u64, u64, Option<Now>)>
     requires { IsJobOf (start_of book.old) book.old.journal (job_of task.now) }
-    ensures parameters { book.new.parameters ≡ book.old.parameters }
-    ensures jobs { (t : Job) → IsJobOf (start_of book.old) book.old.journal t → IsJobOf (start_of book.new) book.new.journal t }
 {
     let cache = NoCache::of(task.bundle.clone().ok()?);
     let answer = book.install(alloc, task, cache).ok()?;
@@ -188,15 +227,15 @@ fn repack_nothing(
     book: &mut Book<NoCache>,
     alloc: Global,
     view: &RowView<NoCache>,
-) -> Option<(RepackAnswer, u64)>
+) -> Result<(RepackAnswer, u64), Refusal>
     requires of_history { IsViewOf (start_of book.old) book.old.journal view.now }
     requires empty { view.now.bundles ≡ [] }
     ensures parameters { book.new.parameters ≡ book.old.parameters }
     ensures views { (v : RowSight (List (List Member))) → IsViewOf (start_of book.old) book.old.journal v → IsViewOf (start_of book.new) book.new.journal v }
 {
     match book.repack(alloc, view, Vec::new(alloc)) {
-        Ok(placed) => Some((placed.answer, placed.place)),
-        Err(_) => None,
+        Ok(placed) => Ok((placed.answer, placed.place)),
+        Err(refusal) => Err(refusal),
     }
 }
 
@@ -217,37 +256,77 @@ fn a_row_without_bundles_stays_so(rt: HostRuntime) {
     assert_eq!(rt; (view.row(), view.from(), view.bundles().len()), (0, 0, 0));
     let (before, after) = (0, 0);
     assert_eq!(rt;
-        repack_nothing(&mut book, alloc, &view),
+        repack_nothing(&mut book, alloc, &view).ok(),
         Some((RepackAnswer::Done { before, after }, 0))
     );
-    let a = made_up([1, 2, 3, 4, 5], [0, 0, 0]);
-    assert_eq!(rt; put(&mut book, alloc, a), Some((Put::Added, 1)));
     assert_eq!(rt;
-        repack_nothing(&mut book, alloc, &view),
+        put(&mut book, alloc, made_up(A)).ok(),
+        Some((Put::Added, 1))
+    );
+    assert_eq!(rt;
+        repack_nothing(&mut book, alloc, &view).ok(),
         Some((RepackAnswer::Moved { stamp: 2 }, 2))
     );
+}
+
+// Drops a tag 4096 times, for which there is room, and answers whether it was absent each time.
+fn drop_often(book: &mut Book<NoCache>, alloc: Global, tag: Tag) -> bool
+    ensures parameters { book.new.parameters ≡ book.old.parameters }
+    ensures views { (v : RowSight (List (List Member))) → IsViewOf (start_of book.old) book.old.journal v → IsViewOf (start_of book.new) book.new.journal v }
+{
+    let mut absent = book.reserve(alloc, 4096).is_ok();
+    for _made in 0..4096u32 {
+        absent &= matches!(drop_tag(book, alloc, tag), Ok((DropAnswer::Absent, _)));
+    }
+    absent
+}
+
+// Drops a tag 2^20 times, and answers whether it was absent each time.
+fn drop_all_along(book: &mut Book<NoCache>, alloc: Global, tag: Tag) -> bool
+    ensures parameters { book.new.parameters ≡ book.old.parameters }
+    ensures views { (v : RowSight (List (List Member))) → IsViewOf (start_of book.old) book.old.journal v → IsViewOf (start_of book.new) book.new.journal v }
+{
+    let mut absent = true;
+    for _made in 0..256u32 {
+        absent &= drop_often(book, alloc, tag);
+    }
+    absent
+}
+
+#[test]
+fn a_full_journal_refuses_each_call(rt: HostRuntime) {
+    let alloc = rt.alloc();
+    let mut book = open_book(alloc, 1).expect(&rt, "opened");
+    let tag = made_up(A);
+    let view = view_row(&book, alloc).expect(&rt, "memory");
+    assert!(rt; drop_all_along(&mut book, alloc, tag));
+    let full = Some(Refusal::JournalFull { entries: 1048576 });
+    assert!(rt; repack_nothing(&mut book, alloc, &view).err() == full);
+    assert!(rt; put(&mut book, alloc, tag).err() == full);
+    assert!(rt; drop_tag(&mut book, alloc, tag).err() == full);
+    assert!(rt; book.ask(alloc).err() == full);
+    assert_eq!(rt; book.count(), 1048576);
 }
 
 #[test]
 fn caches_come_back_for_bundles_that_stand(rt: HostRuntime) {
     let alloc = rt.alloc();
     let mut book = open_book(alloc, 1).expect(&rt, "opened");
-    let a = made_up([1, 2, 3, 4, 5], [0, 0, 0]);
-    let b = made_up([6, 7, 8, 9, 10], [0, 0, 0]);
-    let c = made_up([11, 12, 13, 14, 15], [5, 5, 5]);
-    assert_eq!(rt; put(&mut book, alloc, a), Some((Put::Added, 0)));
-    assert_eq!(rt; put(&mut book, alloc, b), Some((Put::Added, 1)));
+    assert!(rt; put(&mut book, alloc, made_up(A)).is_ok());
+    assert!(rt; put(&mut book, alloc, made_up(B)).is_ok());
     let first = bare(&book, alloc, 2).expect(&rt, "a task");
-    let second = bare(&book, alloc, 1).expect(&rt, "a task");
-    assert_eq!(rt; (first.index, first.stamp), (0, 1));
-    assert_eq!(rt; (second.index, second.stamp), (1, 2));
-    assert_eq!(rt; bring(&mut book, alloc, &second), Some((1, 2, 2, None)));
-    assert_eq!(rt; put(&mut book, alloc, c), Some((Put::Added, 2)));
+    assert_eq!(rt; (first.row, first.index, first.stamp), (0, 0, 1));
+    assert!(rt; put(&mut book, alloc, made_up(C)).is_ok());
     let now = Some(Now::Stamp { stamp: 3 });
     assert_eq!(rt; bring(&mut book, alloc, &first), Some((0, 1, 3, now)));
-    let again = bare(&book, alloc, 1).expect(&rt, "a task");
-    assert_eq!(rt; (again.row, again.index, again.stamp), (0, 0, 3));
-    assert_eq!(rt; bring(&mut book, alloc, &again), Some((0, 3, 3, None)));
+    for (skip, index, stamp) in [(1, 1, 2), (1, 0, 3)] {
+        let task = bare(&book, alloc, skip).expect(&rt, "a task");
+        assert_eq!(rt; (task.index, task.stamp), (index, stamp));
+        assert_eq!(rt;
+            bring(&mut book, alloc, &task),
+            Some((index, stamp, 3, None))
+        );
+    }
     crate::interleaved_with::<NoCache>();
     match book.fetch_bare(alloc, 7) {
         Ok(Bare::All { shown }) => assert_eq!(rt; shown.place(), 3),
