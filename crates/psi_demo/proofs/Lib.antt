@@ -1,0 +1,11 @@
+pub mod Made
+pub mod Numbering
+pub mod ScriptFrames
+pub mod ReplyFrames
+pub mod Tallies
+pub mod Reading
+pub mod Opened
+pub mod ServedTexts
+pub mod Summed
+pub mod ServedSizes
+pub mod ScriptSizes

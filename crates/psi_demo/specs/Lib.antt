@@ -1,0 +1,9 @@
+pub mod Items
+pub mod Scripts
+pub mod Writing
+pub mod Replies
+pub mod Summaries
+pub mod Texts
+pub mod Faults
+pub mod Opening
+pub mod Laws
