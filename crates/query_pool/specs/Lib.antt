@@ -1,4 +1,10 @@
 pub mod Rounds
 pub mod Caching
 pub mod Alone
+pub mod Lanes
+pub mod Joined
+pub mod Seats
+pub mod Dealing
+pub mod Jobs
+pub mod Exchanges
 pub mod Tried

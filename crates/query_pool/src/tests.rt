@@ -1,16 +1,18 @@
 //! Rounds on an empty set of one row, with bins of one member and no labels.
-ghost use Rattle.std.specs.Prelude.{◌≤◌, IfSome};
+ghost use Rattle.std.specs.Prelude.{◌≤◌, ◌<◌, IfSome};
 ghost use Rattle.psi_frames.specs.Requests.{IsFit};
 ghost use Rattle.query_pool.specs.Tried.{smallest};
 
-use crate::round_alone;
+use crate::{Shape, round_alone, run_round};
 use item_slots::tag_of;
 use noise_ledger::{Params, check};
 use psi_bundle::Label;
 use psi_frames::{Reply, Request};
+use psi_outside::Open;
 use query_codec::{Ciphertext, Ciphertexts};
 use sender_core::Book;
 use std::alloc::Global;
+use std::sync::Wait;
 use std::thread::Threads;
 
 // What a reply tells; of a body its length.
@@ -166,5 +168,61 @@ fn rounds_of_one_lane(rt: HostRuntime) {
     assert_eq!(rt;
         two(&rt, alloc, request, query),
         Some([Told::Added(0), Told::Answer(1, 81930)])
+    );
+}
+
+// A round of two requests by some workers, with a builder beside them.
+fn two_joined<R: Threads + Wait + Sync>(
+    rt: &R,
+    alloc: Global,
+    first: Request,
+    second: Request,
+    workers: u8,
+) -> Option<[Told; 2]>
+    requires first { IsFit smallest first }
+    requires second { IsFit smallest second }
+    requires some { 0 < workers }
+    requires few { workers ≤ 8 }
+{
+    let params = Params::of(1, 1, 0);
+    if check(&params).is_err() {
+        return None;
+    }
+    let book = Book::open(alloc, &params).ok()?;
+    let requests = vec![in alloc; first, second].ok()?;
+    let shape = Shape {
+        workers,
+        builders: 1,
+    };
+    let round = run_round(rt, alloc, &params, book, requests, shape, &Open).ok()?;
+    Some([
+        what_is_told(&round.replies[0]),
+        what_is_told(&round.replies[1]),
+    ])
+}
+
+#[test]
+fn rounds_of_some_lanes(rt: HostRuntime) {
+    let alloc = rt.alloc();
+    let request = put().expect(&rt, "label");
+    let query = ask(alloc).expect(&rt, "memory");
+    assert_eq!(rt;
+        two_joined(&rt, alloc, request, query, 1),
+        Some([Told::Added(0), Told::Answer(1, 81930)])
+    );
+    let query = ask(alloc).expect(&rt, "memory");
+    let told = two_joined(&rt, alloc, query, drop_item(), 3);
+    let asked_first = Some([Told::Answer(0, 10), Told::Absent(1)]);
+    let asked_last = Some([Told::Answer(1, 10), Told::Absent(0)]);
+    assert!(rt; told == asked_first || told == asked_last);
+    let packed = Told::Repacked {
+        place: 0,
+        from: 0,
+        before: 0,
+        after: 0,
+    };
+    assert_eq!(rt;
+        two_joined(&rt, alloc, bad(2), repack(), 8),
+        Some([Told::Refused(2), packed])
     );
 }
