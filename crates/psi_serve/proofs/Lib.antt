@@ -9,4 +9,5 @@ pub mod Going
 pub mod Pieces
 pub mod Leaving
 pub mod LaneRounds
+pub mod JoinedRounds
 pub mod Once

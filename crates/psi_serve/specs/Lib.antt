@@ -3,3 +3,4 @@ pub mod Inputs
 pub mod Runs
 pub mod Texts
 pub mod Books
+pub mod Rounds

@@ -1,6 +1,6 @@
 //! Rounds answered by one lane.
-ghost use Rattle.std.specs.Prelude.{true, IfSome};
-ghost use Rattle.noise_ledger.specs.Verdicts.{parameters_of};
+ghost use Rattle.std.specs.Prelude.{◌≡◌, true, [], IfOk, IfSome};
+ghost use Rattle.noise_ledger.specs.Verdicts.{ArePassed, parameters_of};
 ghost use denote.Param.Send.{IsSync};
 ghost use Rattle.psi_serve.specs.Books.{IsBookOf, journal_of};
 
@@ -18,6 +18,21 @@ use std::thread::Threads;
 pub struct Alone<'a, R> {
     pub rt: &'a R,
     pub book: Option<Book<Cache>>,
+}
+
+impl<'a, R: Threads + Sync> Alone<'a, R> {
+    /// One lane on an empty set.
+    pub fn open(rt: &'a R, alloc: Global, params: &Params) -> Result<Alone<'a, R>, AllocError>
+        requires passed { ArePassed (parameters_of params.now) }
+        ensures under { IfOk result (λ alone. IsSync R.row × IfSome alone.book (IsBookOf (parameters_of params.now))) }
+        ensures empty { IfOk result (λ alone. journal_of alone.book ≡ []) }
+    {
+        let book = Book::open(alloc, params)?;
+        Ok(Alone {
+            rt,
+            book: Some(book),
+        })
+    }
 }
 
 impl<'a, R: Threads + Sync> Answers for Alone<'a, R> {

@@ -6,11 +6,12 @@
 
 mod alone;
 mod answers;
+mod calls;
+mod lanes;
 mod run;
-mod serve;
 mod stop;
 #[cfg(test)]
 mod tests;
 mod texts;
 
-pub use crate::serve::serve_alone;
+pub use crate::calls::{serve, serve_alone};
