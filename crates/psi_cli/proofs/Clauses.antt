@@ -1,20 +1,18 @@
 -- What runs leave, in plain words: each clause of the top call, from what its commands leave.
-use Rattle.std.proofs.Common.{◌≡◌, ◌⊎◌, ◌↔◌, ℕ, ◌<◌, ◌≤◌, Bool, true, false, nat_eq, List, [], ◌∷◌, ◌++◌, length, map, take, Option, None, Some, Result, Ok, Err, IsSome, refl, sym, ap, ◌∙◌, subst, arith, inl, inr, append-nil, if◌then◌else◌}
+use Rattle.std.proofs.Common.{◌≡◌, ◌⊎◌, ℕ, ◌<◌, Bool, true, nat_eq, List, [], ◌∷◌, ◌++◌, length, map, take, Option, None, Some, Ok, Err, IsSome, refl, sym, ap, ◌∙◌, subst, arith, inl, inr, append-nil, if◌then◌else◌}
 use Rattle.std.specs.Io.KnownBytes.{Appends}
+use Rattle.std.proofs.KnownBytes.{Appends-nil}
 use Rattle.std.specs.List.{All, AllByRecursion}
 use Rattle.std.specs.Option.{IfSome, IsSomeAnd}
 use Rattle.std.proofs.lemmas.List.Elements.{All-from_recursion, All-head, recursion_from_All}
 use Rattle.item_slots.specs.Tags.{tag_of}
 use Rattle.cuckoo_place.specs.Placements.{HasNoPlacement}
 use Rattle.psi_residue.specs.Parameters.{Parameters}
-use Rattle.noise_ledger.specs.declared.ledger.Ledger.{Ledger}
-use Rattle.noise_ledger.specs.declared.ledger.ParamFault.{ParamFault}
-use Rattle.noise_ledger.specs.Verdicts.{ArePassed, judged as judged_parameters}
-use Rattle.psi_bundle.specs.Versions.{IsSound, empty_version}
+use Rattle.noise_ledger.specs.Verdicts.{ArePassed}
 use Rattle.psi_outside.specs.Causes.{Rose}
 use Rattle.psi_outside.specs.Ends.{Ends}
 use Rattle.psi_outside.specs.Streams.{IsAllFlushed}
-use Rattle.psi_outside.specs.Names.{FileMap, file_at}
+use Rattle.psi_outside.specs.Names.{FileMap}
 use Rattle.query_codec.specs.Replies.{IsReply}
 use Rattle.sender_core.proofs.SoundSteps.{sound-empty}
 use Rattle.psi_frames.specs.declared.frame.Frame.{Frame}
@@ -23,26 +21,28 @@ use Rattle.psi_frames.specs.Served.{text_of}
 use Rattle.psi_frames.proofs.Feeding.{no_fault}
 use Rattle.psi_frames.proofs.FrameLaws.{same_front}
 use Rattle.psi_frames.proofs.Readings.{begins-frame}
-use Rattle.psi_serve.specs.Serving.{HasServed, IsFlushedBehind, IsServingStatus}
+use Rattle.psi_serve.specs.Serving.{IsFlushedBehind, IsServingStatus}
 use Rattle.psi_words.specs.declared.command.Command.{Command}
 use Rattle.psi_words.specs.declared.command.Command.TheVariants as command
 use Rattle.psi_words.specs.Texts.{help_lines}
+use Rattle.psi_demo.specs.Items.{asked_tags, demo_parameters}
+use Rattle.psi_demo.specs.Summaries.{AreUnplaced}
 use Rattle.psi_receiver.specs.Faults.{HavePlacement}
 use Rattle.psi_receiver.specs.Placements.{position_sets}
 use Rattle.psi_cli.specs.declared.status.Status.{Status}
 use Rattle.psi_cli.specs.declared.status.Status.TheVariants as status
 use Rattle.psi_cli.specs.AnswerFiles.{IsAnswerFile}
-use Rattle.psi_cli.specs.Answered.{AreBadFrames, AreGoodFrames, AreRefused, HaveNoPlace, IfAsk, IfCrowded, IfHelp, IfNoRounds, IfOpen, IfParams, IfRounds, IsAnswered, IsBadInput, IsReading, IsToldBad, IsToldCrowded, IsToldGood}
+use Rattle.psi_cli.specs.Answered.{AreBadFrames, AreGoodFrames, AreRefused, HaveNoPlace, IfAsk, IfCrowded, IfDemo, IfHelp, IfNoRounds, IfOpen, IfParams, IfRounds, IsAnswered, IsBadInput, IsReading, IsToldBad, IsToldCrowded, IsToldGood}
 use Rattle.psi_cli.specs.Commands.{word_parameters}
+use Rattle.psi_cli.specs.Demonstrations.{IsDemonstration, ShowsSo}
 use Rattle.psi_cli.specs.ItemTexts.{IsItemText, items_of}
-use Rattle.psi_cli.specs.Leaving.{GivesUp, HasBeenCutOff, HasGivenUp, HasRead, HasWritten, Leaves}
+use Rattle.psi_cli.specs.Leaving.{GivesUp, HasBeenCutOff, HasGivenUp, HasWritten, Leaves}
 use Rattle.psi_cli.specs.Opening.{IsBadOpening, OpensNothing}
 use Rattle.psi_cli.specs.Outcomes.{AreCrowded, AreFigures, AreFound, AskMakes, AsksText, HasAnswer, IsAskFrame, IsNoAnswer, IsRefusal, Makes, OpenMakes, OpensFile, OpensText, ParamsMake}
 use Rattle.psi_cli.specs.Reading.{AsksNothing}
-use Rattle.psi_cli.specs.Runs.{DoesNothing, GivesNone, GivesNoPlain, IsRefused, Judged, Runs, RunsPlain, RunsRounds, RunsWhole, ServedSo, ServesRounds}
+use Rattle.psi_cli.specs.Runs.{GivesNone, GivesNoPlain, IsRefused, Judged, Runs, RunsPlain, RunsRounds, RunsWhole, ServedSo, Shows, ShowsDemo, held_of}
 use Rattle.psi_cli.specs.Statuses.{IsBadOrFails, IsCrowdedOrFails, IsDoneOrFails, IsEmptyNumber, IsReadWhole, IsRefusedOrFails, IsStatus, IsUnreadStatus, number_of}
 use Rattle.psi_cli.specs.Worlds.{Given, Held, NoReadFailed, ReadFailed, World, ends_of, IsFlushedSo}
-use Rattle.psi_cli.proofs.Made.{same_answer}
 use Rattle.psi_cli.proofs.QueryOpenings.{answers-open}
 
 -- ---- statuses by their numbers
@@ -263,6 +263,44 @@ rounds_words : (p : Parameters) (alone : Bool) (old new : Ends) (n : ℕ) → Ru
 rounds_words p alone old new n (inr refused) e = omega (arith, refused.status_is, e)
 rounds_words p alone old new n (inl so) e = served_not so.served.status so.leaves.statuses (inl (so.status_is ∙ e))
 
+-- ---- the demonstration
+
+-- what it leaves, by the number of its status
+demo_so : (number workers : ℕ) (old new : World) (n : ℕ) → ShowsDemo number workers old new n → (t : Status) → n ≡ number_of t → ShowsSo number workers (held_of (ends_of old)) (held_of (ends_of new)) t
+demo_so number workers old new n runs t e =
+    let shown = runs.shows.shown in
+    subst (ShowsSo number workers (held_of (ends_of old)) (held_of (ends_of new))) (sym (at_number shown.0) ∙ ap status_at (sym shown.1 ∙ e) ∙ at_number t) shown.2
+
+-- asked items without a placement have no script, and those with one are not crowded
+script_placed : (number workers : ℕ) (text : List ℕ) → IsDemonstration number workers text → AreUnplaced (asked_tags number) → ⊥
+script_placed number workers text shown none = let placed = shown.script.first_asked.1 in none placed.0 placed.1.placement
+
+demo_unplaced : (number workers : ℕ) (old new : Held) (s : Status) (n : ℕ) → n ≡ number_of s → ShowsSo number workers old new s → AreUnplaced (asked_tags number) → IsCrowdedOrFails n
+demo_unplaced number workers old new status.Done n e shown none = absurd (script_placed number workers shown.0 shown.1 none)
+demo_unplaced number workers old new status.WriteFault n e shown none = inr (inr (inl e))
+demo_unplaced number workers old new status.Crowded n e shown none = inl e
+demo_unplaced number workers old new status.NoMemory n e shown none = inr (inr (inr e))
+demo_unplaced number workers old new status.Words n e shown none = absurd shown
+demo_unplaced number workers old new status.Parameters n e shown none = absurd shown
+demo_unplaced number workers old new status.BadInput n e shown none = absurd shown
+demo_unplaced number workers old new status.ReadFault n e shown none = absurd shown
+
+demo_placed : (number workers : ℕ) (old new : Held) (s : Status) (n : ℕ) → n ≡ number_of s → ShowsSo number workers old new s → HavePlacement demo_parameters.rows (asked_tags number) → IsDoneOrFails n
+demo_placed number workers old new status.Done n e shown placed = inl e
+demo_placed number workers old new status.WriteFault n e shown placed = inr (inr (inl e))
+demo_placed number workers old new status.Crowded n e shown placed = absurd (shown.0 placed.0 placed.1)
+demo_placed number workers old new status.NoMemory n e shown placed = inr (inr (inr e))
+demo_placed number workers old new status.Words n e shown placed = absurd shown
+demo_placed number workers old new status.Parameters n e shown placed = absurd shown
+demo_placed number workers old new status.BadInput n e shown placed = absurd shown
+demo_placed number workers old new status.ReadFault n e shown placed = absurd shown
+
+demo_empty : (number workers : ℕ) (old new : World) (n : ℕ) → ShowsDemo number workers old new n → IsEmptyNumber n → new.held.written ≡ old.held.written
+demo_empty number workers old new n runs (inl e) = absurd (demo_so number workers old new n runs status.Words e)
+demo_empty number workers old new n runs (inr (inl e)) = absurd (demo_so number workers old new n runs status.BadInput e)
+demo_empty number workers old new n runs (inr (inr (inl e))) = absurd (demo_so number workers old new n runs status.ReadFault e)
+demo_empty number workers old new n runs (inr (inr (inr e))) = ap (λ (h : Held). h.written) (demo_so number workers old new n runs status.NoMemory e)
+
 -- frames of a table are spellable
 spellable : (table : Table) (fs : List Frame) → All (IsFrame table) fs → All IsSpellable fs
 spellable table fs each = λ k d lt. (each k d lt).spellable
@@ -292,9 +330,9 @@ one_fault table bytes fs gs (Some fault) all some is =
 
 pub statuses : (r : Judged) (old new : World) (n : ℕ) → Runs r old new n → IsStatus n
 statuses (Err fault) old new n runs = (status.Words, runs.0)
-statuses (Ok (command.Demo number workers)) old new n runs = (status.Words, runs.0)
+statuses (Ok (command.Demo number workers)) old new n runs = (runs.shows.shown.0, runs.shows.shown.1)
 statuses (Ok (command.Serve rows capacity units dropped counted workers builders)) old new n runs =
-    rounds_status (word_parameters rows capacity units dropped counted) true (ends_of old) (ends_of new) n runs.rounds
+    rounds_status (word_parameters rows capacity units dropped counted) (nat_eq workers 1) (ends_of old) (ends_of new) n runs.rounds
 statuses (Ok (command.Replay rows capacity units dropped counted)) old new n runs = rounds_status (word_parameters rows capacity units dropped counted) true (ends_of old) (ends_of new) n runs.rounds
 statuses (Ok (command.Params rows capacity units dropped counted)) old new n runs = (runs.0, runs.1)
 statuses (Ok (command.Ask rows capacity units dropped counted seed session number)) old new n runs = (runs.0, runs.1)
@@ -303,9 +341,9 @@ statuses (Ok command.Help) old new n runs = (runs.0, runs.1)
 
 pub words : (r : Judged) (old new : World) (n : ℕ) → Runs r old new n → (n ≡ 2 → GivesNone r) × (GivesNone r → n ≡ 2)
 words (Err fault) old new n runs = ((λ e. tt), (λ h. runs.0))
-words (Ok (command.Demo number workers)) old new n runs = ((λ e. tt), (λ h. runs.0))
+words (Ok (command.Demo number workers)) old new n runs = ((λ e. demo_so number workers old new n runs status.Words e), (λ h. absurd h))
 words (Ok (command.Serve rows capacity units dropped counted workers builders)) old new n runs =
-    ((λ e. rounds_words (word_parameters rows capacity units dropped counted) true (ends_of old) (ends_of new) n runs.rounds e), (λ h. absurd h))
+    ((λ e. rounds_words (word_parameters rows capacity units dropped counted) (nat_eq workers 1) (ends_of old) (ends_of new) n runs.rounds e), (λ h. absurd h))
 words (Ok (command.Replay rows capacity units dropped counted)) old new n runs =
     ((λ e. rounds_words (word_parameters rows capacity units dropped counted) true (ends_of old) (ends_of new) n runs.rounds e), (λ h. absurd h))
 words (Ok (command.Params rows capacity units dropped counted)) old new n runs = ((λ e. never_words (command.Params rows capacity units dropped counted) old new n runs e), (λ h. absurd h))
@@ -347,9 +385,9 @@ never_refused e (inr f) = cc
 
 pub refused : (r : Judged) (old new : World) (n : ℕ) → Runs r old new n → n ≡ 3 → AreRefused r
 refused (Err fault) old new n runs e = absurd (omega (arith, runs.0, e))
-refused (Ok (command.Demo number workers)) old new n runs e = absurd (omega (arith, runs.0, e))
+refused (Ok (command.Demo number workers)) old new n runs e = absurd (demo_so number workers old new n runs status.Parameters e)
 refused (Ok (command.Serve rows capacity units dropped counted workers builders)) old new n runs e =
-    (refused_so (word_parameters rows capacity units dropped counted) true (ends_of old) (ends_of new) n runs.rounds e).refused
+    (refused_so (word_parameters rows capacity units dropped counted) (nat_eq workers 1) (ends_of old) (ends_of new) n runs.rounds e).refused
 refused (Ok (command.Replay rows capacity units dropped counted)) old new n runs e = (refused_so (word_parameters rows capacity units dropped counted) true (ends_of old) (ends_of new) n runs.rounds e).refused
 refused (Ok (command.Params rows capacity units dropped counted)) old new n runs e =
     elim (refused_text (command.Params rows capacity units dropped counted) old new (by_status (command.Params rows capacity units dropped counted) old new n status.Parameters runs e)) [
@@ -411,7 +449,7 @@ refused_only (Err fault) old new n runs never = absurd never
 refused_only (Ok (command.Demo number workers)) old new n runs never = absurd never
 refused_only (Ok command.Help) old new n runs never = absurd never
 refused_only (Ok (command.Serve rows capacity units dropped counted workers builders)) old new n runs never =
-    refused_rounds (word_parameters rows capacity units dropped counted) true (ends_of old) (ends_of new) n runs.rounds never
+    refused_rounds (word_parameters rows capacity units dropped counted) (nat_eq workers 1) (ends_of old) (ends_of new) n runs.rounds never
 refused_only (Ok (command.Replay rows capacity units dropped counted)) old new n runs never = refused_rounds (word_parameters rows capacity units dropped counted) true (ends_of old) (ends_of new) n runs.rounds never
 refused_only (Ok (command.Params rows capacity units dropped counted)) old new n (s, e, inl w) never = refused_makes (word_parameters rows capacity units dropped counted) s w.text n e never w.makes
 refused_only (Ok (command.Params rows capacity units dropped counted)) old new n (s, e, inr (inl w)) never = inr (inl (e ∙ ap number_of w.told))
@@ -456,7 +494,7 @@ done (Ok command.Help) old new n runs e = tt
 done (Ok (command.Params rows capacity units dropped counted)) old new n runs e = tt
 done (Ok (command.Ask rows capacity units dropped counted seed session number)) old new n runs e = tt
 done (Ok (command.Open rows capacity units dropped counted seed name)) old new n runs e = tt
-done (Ok (command.Serve rows capacity units dropped counted workers builders)) old new n runs e = rounds_done (word_parameters rows capacity units dropped counted) true (ends_of old) (ends_of new) n runs.rounds e
+done (Ok (command.Serve rows capacity units dropped counted workers builders)) old new n runs e = rounds_done (word_parameters rows capacity units dropped counted) (nat_eq workers 1) (ends_of old) (ends_of new) n runs.rounds e
 done (Ok (command.Replay rows capacity units dropped counted)) old new n runs e = rounds_done (word_parameters rows capacity units dropped counted) true (ends_of old) (ends_of new) n runs.rounds e
 
 rounds_ended : (p : Parameters) (alone : Bool) (old new : Ends) (n : ℕ) → RunsRounds p alone old new n → n ≡ 0 → IfSome old.left (λ _. new.left ≡ Some [])
@@ -471,7 +509,7 @@ ended (Ok command.Help) old new n runs e reads = absurd reads
 ended (Ok (command.Params rows capacity units dropped counted)) old new n runs e reads = absurd reads
 ended (Ok (command.Ask rows capacity units dropped counted seed session number)) old new n runs e reads = (wrote (command.Ask rows capacity units dropped counted seed session number) old new n runs status.Done (inl refl) e).read.ended
 ended (Ok (command.Open rows capacity units dropped counted seed name)) old new n runs e reads = (wrote (command.Open rows capacity units dropped counted seed name) old new n runs status.Done (inl refl) e).read.ended
-ended (Ok (command.Serve rows capacity units dropped counted workers builders)) old new n runs e reads = rounds_ended (word_parameters rows capacity units dropped counted) true (ends_of old) (ends_of new) n runs.rounds e
+ended (Ok (command.Serve rows capacity units dropped counted workers builders)) old new n runs e reads = rounds_ended (word_parameters rows capacity units dropped counted) (nat_eq workers 1) (ends_of old) (ends_of new) n runs.rounds e
 ended (Ok (command.Replay rows capacity units dropped counted)) old new n runs e reads = rounds_ended (word_parameters rows capacity units dropped counted) true (ends_of old) (ends_of new) n runs.rounds e
 
 pub figures : (r : Judged) (old new : World) (n : ℕ) → Runs r old new n → n ≡ 0 → IfParams r (λ p. (text : List ℕ) × AreFigures p text × Appends old.held.written new.held.written text)
@@ -546,6 +584,28 @@ opened (Ok (command.Ask rows capacity units dropped counted seed session number)
 opened (Ok (command.Serve rows capacity units dropped counted workers builders)) old new n runs e = tt
 opened (Ok (command.Replay rows capacity units dropped counted)) old new n runs e = tt
 
+pub demonstrated : (r : Judged) (old new : World) (n : ℕ) → Runs r old new n → n ≡ 0 → IfDemo r (λ number workers. (text : List ℕ) × IsDemonstration number workers text × Appends old.held.written new.held.written text)
+demonstrated (Ok (command.Demo number workers)) old new n runs e =
+    let w = demo_so number workers old new n runs status.Done e in (w.0, w.1, w.2.appended)
+demonstrated (Err fault) old new n runs e = tt
+demonstrated (Ok command.Help) old new n runs e = tt
+demonstrated (Ok (command.Params rows capacity units dropped counted)) old new n runs e = tt
+demonstrated (Ok (command.Ask rows capacity units dropped counted seed session number)) old new n runs e = tt
+demonstrated (Ok (command.Open rows capacity units dropped counted seed name)) old new n runs e = tt
+demonstrated (Ok (command.Serve rows capacity units dropped counted workers builders)) old new n runs e = tt
+demonstrated (Ok (command.Replay rows capacity units dropped counted)) old new n runs e = tt
+
+-- all that the demonstration leaves
+pub shown : (r : Judged) (old new : World) (n : ℕ) → Runs r old new n → IfDemo r (λ number workers. Shows number workers (ends_of old) (ends_of new) n)
+shown (Ok (command.Demo number workers)) old new n runs = runs.shows
+shown (Err fault) old new n runs = tt
+shown (Ok command.Help) old new n runs = tt
+shown (Ok (command.Params rows capacity units dropped counted)) old new n runs = tt
+shown (Ok (command.Ask rows capacity units dropped counted seed session number)) old new n runs = tt
+shown (Ok (command.Open rows capacity units dropped counted seed name)) old new n runs = tt
+shown (Ok (command.Serve rows capacity units dropped counted workers builders)) old new n runs = tt
+shown (Ok (command.Replay rows capacity units dropped counted)) old new n runs = tt
+
 -- ---- crowded items
 
 rounds_never : (p : Parameters) (alone : Bool) (old new : Ends) (n : ℕ) → RunsRounds p alone old new n → n ≡ 8 → ⊥
@@ -574,10 +634,11 @@ crowded (Ok (command.Open rows capacity units dropped counted seed name)) old ne
     (opens_crowded (word_parameters rows capacity units dropped counted) seed name w.text old.given.left old.given.files w.makes.1.makes) w.written.appended
 crowded (Ok (command.Params rows capacity units dropped counted)) old new n runs e = absurd (wrote (command.Params rows capacity units dropped counted) old new n runs status.Crowded (inr refl) e).makes
 crowded (Ok command.Help) old new n runs e = absurd (let f = (wrote command.Help old new n runs status.Crowded (inr refl) e).makes.0 in cc)
-crowded (Ok (command.Serve rows capacity units dropped counted workers builders)) old new n runs e = absurd (rounds_never (word_parameters rows capacity units dropped counted) true (ends_of old) (ends_of new) n runs.rounds e)
+crowded (Ok (command.Serve rows capacity units dropped counted workers builders)) old new n runs e = absurd (rounds_never (word_parameters rows capacity units dropped counted) (nat_eq workers 1) (ends_of old) (ends_of new) n runs.rounds e)
 crowded (Ok (command.Replay rows capacity units dropped counted)) old new n runs e = absurd (rounds_never (word_parameters rows capacity units dropped counted) true (ends_of old) (ends_of new) n runs.rounds e)
 crowded (Err fault) old new n runs e = absurd (omega (arith, runs.0, e))
-crowded (Ok (command.Demo number workers)) old new n runs e = absurd (omega (arith, runs.0, e))
+crowded (Ok (command.Demo number workers)) old new n runs e =
+    let w = demo_so number workers old new n runs status.Crowded e in (w.0, subst (λ (h : Held). Appends old.held.written h.written []) (sym w.1) (Appends-nil old.held.written))
 
 -- ---- faults of reads and writes
 
@@ -588,8 +649,8 @@ rounds_read p alone old new n runs e =
 
 pub read : (r : Judged) (old new : World) (n : ℕ) → Runs r old new n → n ≡ 5 → ReadFailed old new
 read (Err fault) old new n runs e = absurd (omega (arith, runs.0, e))
-read (Ok (command.Demo number workers)) old new n runs e = absurd (omega (arith, runs.0, e))
-read (Ok (command.Serve rows capacity units dropped counted workers builders)) old new n runs e = inl (rounds_read (word_parameters rows capacity units dropped counted) true (ends_of old) (ends_of new) n runs.rounds e)
+read (Ok (command.Demo number workers)) old new n runs e = absurd (demo_so number workers old new n runs status.ReadFault e)
+read (Ok (command.Serve rows capacity units dropped counted workers builders)) old new n runs e = inl (rounds_read (word_parameters rows capacity units dropped counted) (nat_eq workers 1) (ends_of old) (ends_of new) n runs.rounds e)
 read (Ok (command.Replay rows capacity units dropped counted)) old new n runs e = inl (rounds_read (word_parameters rows capacity units dropped counted) true (ends_of old) (ends_of new) n runs.rounds e)
 read (Ok (command.Params rows capacity units dropped counted)) old new n runs e = absurd (let f = (gave_up (command.Params rows capacity units dropped counted) old new n runs status.ReadFault (inr (inl refl)) e).why in cc)
 read (Ok command.Help) old new n runs e = absurd (let f = (gave_up command.Help old new n runs status.ReadFault (inr (inl refl)) e).why in cc)
@@ -603,8 +664,8 @@ rounds_write p alone old new n runs e =
 
 pub write : (r : Judged) (old new : World) (n : ℕ) → Runs r old new n → n ≡ 6 → Rose old.held.writes_failed new.held.writes_failed
 write (Err fault) old new n runs e = absurd (omega (arith, runs.0, e))
-write (Ok (command.Demo number workers)) old new n runs e = absurd (omega (arith, runs.0, e))
-write (Ok (command.Serve rows capacity units dropped counted workers builders)) old new n runs e = rounds_write (word_parameters rows capacity units dropped counted) true (ends_of old) (ends_of new) n runs.rounds e
+write (Ok (command.Demo number workers)) old new n runs e = (demo_so number workers old new n runs status.WriteFault e).2.failed
+write (Ok (command.Serve rows capacity units dropped counted workers builders)) old new n runs e = rounds_write (word_parameters rows capacity units dropped counted) (nat_eq workers 1) (ends_of old) (ends_of new) n runs.rounds e
 write (Ok (command.Replay rows capacity units dropped counted)) old new n runs e = rounds_write (word_parameters rows capacity units dropped counted) true (ends_of old) (ends_of new) n runs.rounds e
 write (Ok (command.Params rows capacity units dropped counted)) old new n runs e = (was_cut (command.Params rows capacity units dropped counted) old new n runs e).cut_off.failed
 write (Ok command.Help) old new n runs e = (was_cut command.Help old new n runs e).cut_off.failed
@@ -636,8 +697,8 @@ rounds_flushed p alone old new n runs e =
 
 pub flushed : (r : Judged) (old new : World) (n : ℕ) → Runs r old new n → n ≡ 0 → IsFlushedSo old.held new.held
 flushed (Err fault) old new n runs e = absurd (omega (arith, runs.0, e))
-flushed (Ok (command.Demo number workers)) old new n runs e = absurd (omega (arith, runs.0, e))
-flushed (Ok (command.Serve rows capacity units dropped counted workers builders)) old new n runs e = rounds_flushed (word_parameters rows capacity units dropped counted) true (ends_of old) (ends_of new) n runs.rounds e
+flushed (Ok (command.Demo number workers)) old new n runs e = inl (demo_so number workers old new n runs status.Done e).2.flushed
+flushed (Ok (command.Serve rows capacity units dropped counted workers builders)) old new n runs e = rounds_flushed (word_parameters rows capacity units dropped counted) (nat_eq workers 1) (ends_of old) (ends_of new) n runs.rounds e
 flushed (Ok (command.Replay rows capacity units dropped counted)) old new n runs e = rounds_flushed (word_parameters rows capacity units dropped counted) true (ends_of old) (ends_of new) n runs.rounds e
 flushed (Ok (command.Params rows capacity units dropped counted)) old new n runs e = inl (wrote (command.Params rows capacity units dropped counted) old new n runs status.Done (inl refl) e).written.flushed
 flushed (Ok command.Help) old new n runs e = inl (wrote command.Help old new n runs status.Done (inl refl) e).written.flushed
@@ -651,8 +712,8 @@ rounds_unfailed p alone old new n runs e =
 
 pub no_write_failed : (r : Judged) (old new : World) (n : ℕ) → Runs r old new n → n ≡ 0 → new.held.writes_failed ≡ old.held.writes_failed
 no_write_failed (Err fault) old new n runs e = absurd (omega (arith, runs.0, e))
-no_write_failed (Ok (command.Demo number workers)) old new n runs e = absurd (omega (arith, runs.0, e))
-no_write_failed (Ok (command.Serve rows capacity units dropped counted workers builders)) old new n runs e = rounds_unfailed (word_parameters rows capacity units dropped counted) true (ends_of old) (ends_of new) n runs.rounds e
+no_write_failed (Ok (command.Demo number workers)) old new n runs e = (demo_so number workers old new n runs status.Done e).2.no_write_failed
+no_write_failed (Ok (command.Serve rows capacity units dropped counted workers builders)) old new n runs e = rounds_unfailed (word_parameters rows capacity units dropped counted) (nat_eq workers 1) (ends_of old) (ends_of new) n runs.rounds e
 no_write_failed (Ok (command.Replay rows capacity units dropped counted)) old new n runs e = rounds_unfailed (word_parameters rows capacity units dropped counted) true (ends_of old) (ends_of new) n runs.rounds e
 no_write_failed (Ok (command.Params rows capacity units dropped counted)) old new n runs e = (wrote (command.Params rows capacity units dropped counted) old new n runs status.Done (inl refl) e).written.no_write_failed
 no_write_failed (Ok command.Help) old new n runs e = (wrote command.Help old new n runs status.Done (inl refl) e).written.no_write_failed
@@ -671,9 +732,9 @@ rounds_quiet p alone old new n runs (inr (inr e)) = absurd (rounds_never p alone
 
 pub no_read_failed : (r : Judged) (old new : World) (n : ℕ) → Runs r old new n → IsReadWhole n → NoReadFailed old.given new.given
 no_read_failed (Err fault) old new n runs is = same_given old.given new.given (ap (λ (w : World). w.given) runs.1)
-no_read_failed (Ok (command.Demo number workers)) old new n runs is = same_given old.given new.given (ap (λ (w : World). w.given) runs.1)
+no_read_failed (Ok (command.Demo number workers)) old new n runs is = record { source = runs.shows.no_read_failed; file = runs.no_file_failed }
 no_read_failed (Ok (command.Serve rows capacity units dropped counted workers builders)) old new n runs is =
-    record { source = rounds_quiet (word_parameters rows capacity units dropped counted) true (ends_of old) (ends_of new) n runs.rounds is; file = runs.no_file_failed }
+    record { source = rounds_quiet (word_parameters rows capacity units dropped counted) (nat_eq workers 1) (ends_of old) (ends_of new) n runs.rounds is; file = runs.no_file_failed }
 no_read_failed (Ok (command.Replay rows capacity units dropped counted)) old new n runs is =
     record { source = rounds_quiet (word_parameters rows capacity units dropped counted) true (ends_of old) (ends_of new) n runs.rounds is; file = runs.no_file_failed }
 no_read_failed (Ok (command.Params rows capacity units dropped counted)) old new n runs (inl e) = same_given old.given new.given (wrote (command.Params rows capacity units dropped counted) old new n runs status.Done (inl refl) e).read
@@ -704,8 +765,8 @@ rounds_bad p alone old new n runs e =
 
 pub bad : (r : Judged) (old new : World) (n : ℕ) → Runs r old new n → n ≡ 4 → IsBadInput r old.given.left old.given.files
 bad (Err fault) old new n runs e = absurd (omega (arith, runs.0, e))
-bad (Ok (command.Demo number workers)) old new n runs e = absurd (omega (arith, runs.0, e))
-bad (Ok (command.Serve rows capacity units dropped counted workers builders)) old new n runs e = rounds_bad (word_parameters rows capacity units dropped counted) true (ends_of old) (ends_of new) n runs.rounds e
+bad (Ok (command.Demo number workers)) old new n runs e = absurd (demo_so number workers old new n runs status.BadInput e)
+bad (Ok (command.Serve rows capacity units dropped counted workers builders)) old new n runs e = rounds_bad (word_parameters rows capacity units dropped counted) (nat_eq workers 1) (ends_of old) (ends_of new) n runs.rounds e
 bad (Ok (command.Replay rows capacity units dropped counted)) old new n runs e = rounds_bad (word_parameters rows capacity units dropped counted) true (ends_of old) (ends_of new) n runs.rounds e
 bad (Ok (command.Params rows capacity units dropped counted)) old new n runs e = absurd (let f = (gave_up (command.Params rows capacity units dropped counted) old new n runs status.BadInput (inl refl) e).why in cc)
 bad (Ok command.Help) old new n runs e = absurd (let f = (gave_up command.Help old new n runs status.BadInput (inl refl) e).why in cc)
@@ -803,7 +864,7 @@ bad_only (Err fault) old new n runs b = absurd b
 bad_only (Ok (command.Demo number workers)) old new n runs b = absurd b
 bad_only (Ok command.Help) old new n runs b = absurd b
 bad_only (Ok (command.Params rows capacity units dropped counted)) old new n runs b = absurd b
-bad_only (Ok (command.Serve rows capacity units dropped counted workers builders)) old new n runs b = rounds_bad_only (word_parameters rows capacity units dropped counted) true (ends_of old) (ends_of new) n runs.rounds b.0 b.1
+bad_only (Ok (command.Serve rows capacity units dropped counted workers builders)) old new n runs b = rounds_bad_only (word_parameters rows capacity units dropped counted) (nat_eq workers 1) (ends_of old) (ends_of new) n runs.rounds b.0 b.1
 bad_only (Ok (command.Replay rows capacity units dropped counted)) old new n runs b = rounds_bad_only (word_parameters rows capacity units dropped counted) true (ends_of old) (ends_of new) n runs.rounds b.0 b.1
 bad_only (Ok (command.Ask rows capacity units dropped counted seed session number)) old new n (s, e, inl w) b = absurd (told_items old.given.left w.makes.1.item_text b.1)
 bad_only (Ok (command.Ask rows capacity units dropped counted seed session number)) old new n (s, e, inr (inl w)) b = absurd (told_items old.given.left w.makes.1.item_text b.1)
@@ -882,7 +943,7 @@ crowd_opens p name old new status.Crowded n e passed why none = absurd why.1
 
 pub crowded_only : (r : Judged) (old new : World) (n : ℕ) → Runs r old new n → IsToldCrowded r old.given.left old.given.files → IsCrowdedOrFails n
 crowded_only (Err fault) old new n runs none = absurd none
-crowded_only (Ok (command.Demo number workers)) old new n runs none = absurd none
+crowded_only (Ok (command.Demo number workers)) old new n runs none = demo_unplaced number workers (held_of (ends_of old)) (held_of (ends_of new)) runs.shows.shown.0 n runs.shows.shown.1 runs.shows.shown.2 none
 crowded_only (Ok command.Help) old new n runs none = absurd none
 crowded_only (Ok (command.Params rows capacity units dropped counted)) old new n runs none = absurd none
 crowded_only (Ok (command.Serve rows capacity units dropped counted workers builders)) old new n runs none = absurd none
@@ -970,8 +1031,8 @@ params_done p status.Crowded text n e passed makes = absurd makes
 
 pub complete : (r : Judged) (old new : World) (n : ℕ) → Runs r old new n → IsToldGood r old.given.left old.given.files → IsDoneOrFails n
 complete (Err fault) old new n runs good = absurd good
-complete (Ok (command.Demo number workers)) old new n runs good = absurd good
-complete (Ok (command.Serve rows capacity units dropped counted workers builders)) old new n runs good = rounds_complete (word_parameters rows capacity units dropped counted) true (ends_of old) (ends_of new) n runs.rounds good.0 good.1
+complete (Ok (command.Demo number workers)) old new n runs good = demo_placed number workers (held_of (ends_of old)) (held_of (ends_of new)) runs.shows.shown.0 n runs.shows.shown.1 runs.shows.shown.2 good
+complete (Ok (command.Serve rows capacity units dropped counted workers builders)) old new n runs good = rounds_complete (word_parameters rows capacity units dropped counted) (nat_eq workers 1) (ends_of old) (ends_of new) n runs.rounds good.0 good.1
 complete (Ok (command.Replay rows capacity units dropped counted)) old new n runs good = rounds_complete (word_parameters rows capacity units dropped counted) true (ends_of old) (ends_of new) n runs.rounds good.0 good.1
 complete (Ok command.Help) old new n (s, e, inl w) good = inl (e ∙ ap number_of w.makes.0)
 complete (Ok command.Help) old new n (s, e, inr (inl w)) good = inr (inr (inl (e ∙ ap number_of w.told)))
@@ -997,10 +1058,10 @@ unread_ends old new e = ap (λ (w : Ends). w.left) e
 
 pub unread : (r : Judged) (old new : World) (n : ℕ) → Runs r old new n → IsUnreadStatus n → new.given.left ≡ old.given.left
 unread (Err fault) old new n runs is = ap (λ (w : World). w.given.left) runs.1
-unread (Ok (command.Demo number workers)) old new n runs is = ap (λ (w : World). w.given.left) runs.1
-unread (Ok (command.Serve rows capacity units dropped counted workers builders)) old new n runs (inl e) = absurd (rounds_words (word_parameters rows capacity units dropped counted) true (ends_of old) (ends_of new) n runs.rounds e)
+unread (Ok (command.Demo number workers)) old new n runs is = runs.shows.unread
+unread (Ok (command.Serve rows capacity units dropped counted workers builders)) old new n runs (inl e) = absurd (rounds_words (word_parameters rows capacity units dropped counted) (nat_eq workers 1) (ends_of old) (ends_of new) n runs.rounds e)
 unread (Ok (command.Serve rows capacity units dropped counted workers builders)) old new n runs (inr e) =
-    unread_ends old new (refused_so (word_parameters rows capacity units dropped counted) true (ends_of old) (ends_of new) n runs.rounds e).nothing
+    unread_ends old new (refused_so (word_parameters rows capacity units dropped counted) (nat_eq workers 1) (ends_of old) (ends_of new) n runs.rounds e).nothing
 unread (Ok (command.Replay rows capacity units dropped counted)) old new n runs (inl e) = absurd (rounds_words (word_parameters rows capacity units dropped counted) true (ends_of old) (ends_of new) n runs.rounds e)
 unread (Ok (command.Replay rows capacity units dropped counted)) old new n runs (inr e) =
     unread_ends old new (refused_so (word_parameters rows capacity units dropped counted) true (ends_of old) (ends_of new) n runs.rounds e).nothing
@@ -1041,7 +1102,7 @@ empty_whole c old new n runs (inr (inr (inr e))) = held_written old.held new.hel
 
 pub unwritten : (r : Judged) (old new : World) (n : ℕ) → Runs r old new n → IsEmptyNumber n → IfNoRounds r (new.held.written ≡ old.held.written)
 unwritten (Err fault) old new n runs is = ap (λ (w : World). w.held.written) runs.1
-unwritten (Ok (command.Demo number workers)) old new n runs is = ap (λ (w : World). w.held.written) runs.1
+unwritten (Ok (command.Demo number workers)) old new n runs is = demo_empty number workers old new n runs is
 unwritten (Ok (command.Serve rows capacity units dropped counted workers builders)) old new n runs is = tt
 unwritten (Ok (command.Replay rows capacity units dropped counted)) old new n runs is = tt
 unwritten (Ok (command.Params rows capacity units dropped counted)) old new n runs is = empty_whole (command.Params rows capacity units dropped counted) old new n runs is

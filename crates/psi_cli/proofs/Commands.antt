@@ -1,12 +1,11 @@
 -- What a run of one command leaves.
-use Rattle.std.proofs.Common.{◌≡◌, ◌⊎◌, ℕ, Bool, List, [], ◌∷◌, length, drop, ◌+◌, ◌==◌, Option, None, Some, Result, Ok, Err, refl, sym, ap, ◌∙◌, subst, inl, inr}
+use Rattle.std.proofs.Common.{◌≡◌, ◌⊎◌, ℕ, Bool, List, [], length, drop, ◌+◌, ◌==◌, Option, None, Some, Result, Ok, Err, refl, sym, ap, ◌∙◌, subst, inl, inr}
 use Rattle.std.specs.Option.{IfSome}
 use Rattle.std.specs.Result.{IfErr, IfOk, OnOk}
 use Rattle.std.proofs.lemmas.Bool.{cases_Bool}
 use Rattle.std.proofs.lemmas.Result.{IfErr-weaker}
 use Rattle.psi_residue.specs.Parameters.{Parameters}
 use Rattle.noise_ledger.specs.Verdicts.{ArePassed}
-use Rattle.psi_outside.specs.Names.{FileMap}
 use Rattle.psi_words.specs.declared.command.Command.{Command}
 use Rattle.psi_words.specs.declared.command.Command.TheVariants as command
 use Rattle.psi_words.specs.declared.fault.WordFault.{WordFault}
@@ -22,7 +21,7 @@ use Rattle.psi_cli.specs.Outcomes.{AsksText, OpensText, ParamsMake}
 use Rattle.psi_cli.specs.Reading.{AsksNothing}
 use Rattle.psi_cli.specs.Runs.{Judged, RunsPlain}
 use Rattle.psi_cli.specs.Statuses.{number_of}
-use Rattle.psi_cli.specs.Worlds.{NoReadFailed, World}
+use Rattle.psi_cli.specs.Worlds.{World}
 use Rattle.psi_cli.proofs.Finished.{runs_whole}
 
 -- ---- `params`

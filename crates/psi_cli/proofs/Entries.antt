@@ -1,6 +1,6 @@
 -- Each entry of a history that replies serve is a call that the set takes.
-use Rattle.std.proofs.Common.{◌≡◌, ℕ, zero, suc, ◌+◌, ◌-◌, ◌<◌, ◌≤◌, min, Bool, true, false, nat_eq, nat_lt, List, [], ◌∷◌, ◌++◌, length, Option, None, Some, slice_get, get_or, refl, sym, ap, ◌∙◌, subst, arith, inl, inr, add-one}
-use Rattle.std.specs.List.{All, AllByRecursion, cons_option, filter_map, range_with_len}
+use Rattle.std.proofs.Common.{◌≡◌, ℕ, zero, suc, ◌+◌, ◌-◌, ◌<◌, ◌≤◌, Bool, true, false, nat_eq, nat_lt, List, [], ◌∷◌, length, Option, None, Some, slice_get, get_or, refl, sym, ap, ◌∙◌, subst, arith, inl, inr, add-one}
+use Rattle.std.specs.List.{All, AllByRecursion, cons_option, range_with_len}
 use Rattle.std.specs.List.Sorted.{IsPermutation}
 use Rattle.std.specs.Option.{option_map}
 use Rattle.std.proofs.lemmas.Bool.{cases_lt}
@@ -16,7 +16,7 @@ use Rattle.psi_bundle.specs.Histories.{HasBytes, IsFitting}
 use Rattle.psi_bundle.specs.Versions.{empty_version}
 use Rattle.psi_frames.specs.declared.request.Request.{Request}
 use Rattle.psi_frames.specs.Requests.{call_of}
-use Rattle.psi_frames.specs.Served.{Exchange, IsRecorded, IsServed, Sent, all_places, answer_of, entry_of, exchanges, from_or_zero, place_of, places_in, places_of_round, requests_of}
+use Rattle.psi_frames.specs.Served.{Exchange, IsRecorded, IsServed, Sent, all_places, exchanges, from_or_zero, place_of, places_in, places_of_round, requests_of}
 use Rattle.psi_frames.proofs.Following.{before}
 use Rattle.psi_serve.proofs.Places.{tells_answer}
 use Rattle.psi_serve.proofs.Renumbered.{places-every, requests-each, rounds-below}

@@ -1,5 +1,5 @@
 -- What a run leaves, by what was made of its input and by how that was written.
-use Rattle.std.proofs.Common.{◌≡◌, ℕ, List, Result, Ok, Err, sym, subst, inl, inr}
+use Rattle.std.proofs.Common.{◌≡◌, ℕ, Result, Ok, Err, sym, subst, inl, inr}
 use Rattle.std.specs.Result.{IfErr, IfOk, OnOk}
 use Rattle.psi_words.specs.declared.command.Command.{Command}
 use Rattle.psi_cli.specs.declared.outcome.Outcome.{Outcome}
@@ -8,7 +8,7 @@ use Rattle.psi_cli.specs.Leaving.{Finishes, GivesUp, HasRead, Leaves}
 use Rattle.psi_cli.specs.Outcomes.{Makes}
 use Rattle.psi_cli.specs.Runs.{RunsWhole}
 use Rattle.psi_cli.specs.Statuses.{number_of}
-use Rattle.psi_cli.specs.Worlds.{Held, World}
+use Rattle.psi_cli.specs.Worlds.{World}
 
 pub leaves : (c : Command) (old new : World) (made : Result Outcome Status) (s : Status) → IfOk made (λ o. Makes c old.given.left old.given.files o.status o.text.items) → OnOk made (HasRead c old.given new.given)
     → IfErr made (GivesUp c old.given new.given) → Finishes made old.held new.held s → Leaves c old new s

@@ -1,5 +1,5 @@
 -- The lines of a text, one after another.
-use Rattle.std.proofs.Common.{◌≡◌, ℕ, ◌+◌, ◌<◌, ◌≤◌, ◌==◌, Bool, true, false, cond, ltb, eqb, List, [], ◌∷◌, ◌++◌, length, map, take, drop, Option, None, Some, refl, sym, ap, ◌∙◌, arith, inl, inr}
+use Rattle.std.proofs.Common.{◌≡◌, ℕ, ◌+◌, ◌<◌, ◌==◌, Bool, false, ltb, eqb, List, [], ◌∷◌, length, map, take, drop, Option, None, Some, refl, ap, ◌∙◌, arith, inl, inr}
 use Rattle.std.specs.List.{All, position, position_or_len, slice_split, before_first, after_first}
 use Rattle.std.specs.Option.{MatchOption}
 use Rattle.std.specs.Str.Lines.{strip_carriage_return}

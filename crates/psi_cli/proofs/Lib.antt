@@ -9,6 +9,8 @@ mod Commands
 mod AllRuns
 mod OneReply
 mod Fitting
+mod Shown
 mod Clauses
 mod Entries
 mod QueryOpenings
+mod OneLanes

@@ -1,27 +1,24 @@
 -- Answers to queries open to what is found in the sets at their places.
-use Rattle.std.proofs.Common.{◌≡◌, ℕ, ◌≤◌, List, [], ◌∷◌, map, take, Option, None, Some, refl, sym, ap, ◌∙◌, subst, arith, get_or}
-use Rattle.std.specs.List.{All, AllByRecursion, flat_map}
+use Rattle.std.proofs.Common.{◌≡◌, ℕ, List, [], ◌∷◌, map, take, Some, refl, sym, ap, ◌∙◌, subst, get_or}
+use Rattle.std.specs.List.{All, flat_map}
 use Rattle.item_slots.specs.Tags.{tag_of}
 use Rattle.cuckoo_place.specs.Placements.{IsPlacement}
 use Rattle.psi_residue.specs.Parameters.{Parameters}
 use Rattle.noise_ledger.specs.Verdicts.{ArePassed}
 use Rattle.psi_bundle.specs.declared.history.Entry.{Entry}
-use Rattle.psi_bundle.specs.Histories.{HasBytes, HoldBytes, IsFitting, after, replay, version_at}
+use Rattle.psi_bundle.specs.Histories.{HasBytes, HoldBytes, IsFitting, after, replay}
 use Rattle.psi_bundle.specs.Versions.{IsSound, Version, empty_version}
-use Rattle.query_codec.specs.Queries.{query_ciphertexts as body_ciphertexts}
 use Rattle.query_codec.specs.Replies.{reply_body}
-use Rattle.sender_core.specs.Soundness.{HasRoom}
 use Rattle.sender_core.proofs.HistoryBytes.{empty-bytes, versions-bytes}
 use Rattle.sender_core.proofs.SoundHistories.{sound-version_at}
 use Rattle.sender_core.proofs.SoundSteps.{step-parameters}
 use Rattle.psi_frames.specs.declared.frame.Frame.{Frame}
 use Rattle.psi_frames.specs.Frames.{IsFrame, request_table}
-use Rattle.psi_frames.specs.Requests.{query_of as ciphertexts_asked}
 use Rattle.psi_frames.specs.Rounds.{request_rounds}
 use Rattle.psi_frames.specs.Served.{Exchange, IsEvaluated, IsServed, Sent, body_of, exchanges, place_of}
 use Rattle.psi_receiver.specs.declared.placement.Placed.{Placed}
 use Rattle.psi_receiver.specs.Findings.{found}
-use Rattle.psi_receiver.specs.Laws.{answer_to, opened_from, reply_to}
+use Rattle.psi_receiver.specs.Laws.{opened_from, reply_to}
 use Rattle.psi_receiver.specs.Placements.{placed, position_sets}
 use Rattle.psi_receiver.specs.Queries.{query_ciphertexts}
 use Rattle.psi_receiver.proofs.Encryptions.{query-read}

@@ -1,5 +1,5 @@
 -- The headline: inputs that are answered, and how the answers open.
-use Rattle.std.specs.Prelude.{◌≡◌, ◌⊎◌, ℕ, ◌<◌, ◌≤◌, Bool, true, nat_eq, List, length, map, Option, None, Some, IfSome, IsSome, IsSomeAnd, Ok, Err, ⊤}
+use Rattle.std.specs.Prelude.{◌≡◌, ◌⊎◌, ℕ, ◌<◌, ◌≤◌, Bool, true, nat_eq, List, [], length, map, Option, None, Some, IfSome, IsSome, IsSomeAnd, Ok, Err, ⊤}
 use Rattle.item_slots.specs.Tags.{tag_of}
 use Rattle.cuckoo_place.specs.Placements.{HasNoPlacement}
 use Rattle.psi_residue.specs.Parameters.{Parameters}
@@ -9,9 +9,11 @@ use Rattle.psi_outside.specs.Names.{FileMap}
 use Rattle.psi_frames.specs.declared.frame.Frame.{Frame}
 use Rattle.psi_frames.specs.Frames.{AreWholeFrames, Fault, most_bytes, request_table}
 use Rattle.psi_frames.specs.Rounds.{request_rounds}
-use Rattle.psi_frames.specs.Served.{Sent, exchanges, text_of}
+use Rattle.psi_frames.specs.Served.{IsOneLaneTextOf, Sent, exchanges, text_of}
 use Rattle.psi_serve.specs.Serving.{AreRepliesTo}
 use Rattle.psi_words.specs.declared.command.Command.TheVariants as command
+use Rattle.psi_demo.specs.Items.{asked_tags, demo_parameters}
+use Rattle.psi_demo.specs.Summaries.{AreUnplaced}
 use Rattle.psi_receiver.specs.Faults.{HavePlacement}
 use Rattle.psi_receiver.specs.Placements.{position_sets}
 use Rattle.psi_cli.specs.Commands.{command_parameters, word_parameters}
@@ -23,9 +25,9 @@ use Rattle.psi_cli.specs.Runs.{Judged}
 
 -- ---- `serve` and `replay`
 
--- what holds of the rounds that words ask for: of their parameters, and of whether one lane alone answers
+-- What holds of the rounds that words ask for: of their parameters, and of whether one lane alone answers. One worker of `serve` does so.
 abbrev pub IfRounds : Judged → (Parameters → (alone : Bool) → Type 0) → Type 0
-IfRounds (Ok (command.Serve rows capacity units drop counted workers builders)) P = P (word_parameters rows capacity units drop counted) true
+IfRounds (Ok (command.Serve rows capacity units drop counted workers builders)) P = P (word_parameters rows capacity units drop counted) (nat_eq workers 1)
 IfRounds (Ok (command.Replay rows capacity units drop counted)) P = P (word_parameters rows capacity units drop counted) true
 IfRounds _ P = ⊤
 
@@ -40,6 +42,18 @@ pub record IsAnswered (p : Parameters) (alone : Bool) (bytes text : List ℕ) : 
   pub replies : AreRepliesTo p alone frames sents
   pub opens : AnswersOpen p replies.history (exchanges (request_rounds p replies.rounds) sents)
   pub text_is : text ≡ text_of sents
+
+-- what holds of the rounds that words ask of one lane: those of `replay`, and those of `serve` with one worker
+abbrev pub IfOneLane : Judged → (Parameters → Type 0) → Type 0
+IfOneLane (Ok (command.Serve rows capacity units drop counted workers builders)) P = workers ≡ 1 → P (word_parameters rows capacity units drop counted)
+IfOneLane (Ok (command.Replay rows capacity units drop counted)) P = P (word_parameters rows capacity units drop counted)
+IfOneLane _ P = ⊤
+
+-- the input is whole frames to its end, and the text is the one that serves their rounds, from the empty set, as one lane does
+pub record IsOneLaneAnswer (p : Parameters) (bytes text : List ℕ) : Type 0 where
+  pub frames : List Frame
+  pub whole : AreWholeFrames request_table bytes frames None
+  pub one_lane : IsOneLaneTextOf p frames text
 
 -- an input that is no whole frames: it has a bad frame, ends within a frame, or is too long
 pub record AreBadFrames (bytes : List ℕ) : Type 0 where
@@ -90,6 +104,11 @@ abbrev pub IfOpen : Judged → (Parameters → (seed name : List ℕ) → Type 0
 IfOpen (Ok (command.Open rows capacity units drop counted seed name)) P = P (word_parameters rows capacity units drop counted) seed name
 IfOpen _ P = ⊤
 
+-- what holds of the words of `demo`
+abbrev pub IfDemo : Judged → ((number workers : ℕ) → Type 0) → Type 0
+IfDemo (Ok (command.Demo number workers)) P = P number workers
+IfDemo _ P = ⊤
+
 -- what holds unless the words ask for rounds
 abbrev pub IfNoRounds : Judged → Type 0 → Type 0
 IfNoRounds (Ok (command.Serve rows capacity units drop counted workers builders)) P = ⊤
@@ -120,24 +139,26 @@ IsToldBad _ left files = ⊥
 abbrev pub HaveNoPlace : (rows : ℕ) → (bytes : List ℕ) → Type 0
 HaveNoPlace rows bytes = HasNoPlacement (position_sets rows (map tag_of (items_of bytes)))
 
--- the words ask for `ask` or `open`, all that is tested before the placement is told and good, and the items have none
+-- the words ask for `ask`, `open` or `demo`, all that is tested before the placement is told and good, and the items have none
 abbrev pub IsToldCrowded : Judged → (left : Option (List ℕ)) → (files : Option FileMap) → Type 0
 IsToldCrowded (Ok (command.Ask rows capacity units drop counted seed session number)) left files =
     ArePassed (word_parameters rows capacity units drop counted) × IsSomeAnd left (λ bytes. IsItemText bytes × HaveNoPlace rows bytes)
 IsToldCrowded (Ok (command.Open rows capacity units drop counted seed name)) left files =
     ArePassed (word_parameters rows capacity units drop counted)
     × IsSomeAnd left (λ bytes. IsItemText bytes × HaveNoPlace rows bytes × IsSomeAnd files (λ known. (body : List ℕ) × HasAnswer known name body))
+IsToldCrowded (Ok (command.Demo number workers)) left files = AreUnplaced (asked_tags number)
 IsToldCrowded _ left files = ⊥
 
--- what crowded items of `ask` and `open` write, where they are told
+-- what crowded items of `ask` and `open` write, where they are told; those of `demo` have no placement, and write nothing
 abbrev pub IfCrowded : Judged → (left : Option (List ℕ)) → (files : Option FileMap) → (List ℕ → Type 0) → Type 0
 IfCrowded (Ok (command.Ask rows capacity units drop counted seed session number)) left files P =
     IfSome left (λ bytes. (text : List ℕ) × AreCrowded rows (items_of bytes) text × P text)
 IfCrowded (Ok (command.Open rows capacity units drop counted seed name)) left files P =
     IfSome left (λ bytes. IfSome files (λ known. (text : List ℕ) × AreCrowded rows (items_of bytes) text × P text))
+IfCrowded (Ok (command.Demo number workers)) left files P = AreUnplaced (asked_tags number) × P []
 IfCrowded _ left files P = ⊥
 
--- All is told and good: the parameters pass, and the input and the file are such that nothing but a fault or want of memory keeps the
+-- All is told and good: the parameters pass, and the input, the file and the asked items are such that nothing but a fault or want of memory keeps the
 -- command from being done.
 abbrev pub IsToldGood : Judged → (left : Option (List ℕ)) → (files : Option FileMap) → Type 0
 IsToldGood (Ok (command.Serve rows capacity units drop counted workers builders)) left files = ArePassed (word_parameters rows capacity units drop counted) × IsSomeAnd left AreGoodFrames
@@ -149,5 +170,6 @@ IsToldGood (Ok (command.Open rows capacity units drop counted seed name)) left f
     ArePassed (word_parameters rows capacity units drop counted)
     × IsSomeAnd left (λ bytes. IsItemText bytes × HavePlacement rows (map tag_of (items_of bytes))
     × IsSomeAnd files (λ known. (body : List ℕ) × HasAnswer known name body × IsReply (word_parameters rows capacity units drop counted) body))
+IsToldGood (Ok (command.Demo number workers)) left files = HavePlacement demo_parameters.rows (asked_tags number)
 IsToldGood (Ok command.Help) left files = ⊤
 IsToldGood _ left files = ⊥

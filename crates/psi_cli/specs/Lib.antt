@@ -8,6 +8,7 @@ pub mod Outcomes
 pub mod Worlds
 pub mod Opening
 pub mod Leaving
+pub mod Demonstrations
 pub mod Runs
 pub mod QueryAnswers
 pub mod Answered

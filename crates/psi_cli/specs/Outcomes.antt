@@ -1,5 +1,5 @@
 -- What `params`, `ask`, `open` and `help` come to: a status, and the text that is written with it.
-use Rattle.std.specs.Prelude.{◌≡◌, ◌⊎◌, ℕ, List, map, Option, None, Some, IfSome, Ok, Err}
+use Rattle.std.specs.Prelude.{◌≡◌, ◌⊎◌, ℕ, List, map, Option, Some, IfSome, Ok, Err}
 use Rattle.item_slots.specs.Tags.{tag_of}
 use Rattle.psi_residue.specs.Parameters.{Parameters}
 use Rattle.noise_ledger.specs.declared.ledger.Ledger.{Ledger}

@@ -6,6 +6,7 @@
 
 mod answer_file;
 mod asking;
+mod demonstration;
 mod items;
 mod opening;
 mod outcome;
@@ -17,6 +18,7 @@ mod status;
 #[cfg(test)]
 mod tests;
 mod texts;
+mod threaded;
 
 use psi_outside::{DiskFiles, Open, ReaderSource, WriterSink};
 use psi_words::status_line;

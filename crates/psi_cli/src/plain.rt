@@ -156,8 +156,8 @@ fn help(alloc: Global) -> Result<Outcome, Status>
     })
 }
 
-// Writes what was made, if anything was, and ends with its status.
-fn finish<K: Sink>(made: Result<Outcome, Status>, output: &mut K) -> Status
+/// Writes what was made, if anything was, and ends with its status.
+pub fn finish<K: Sink>(made: Result<Outcome, Status>, output: &mut K) -> Status
     ensures { Finishes made (record { written = K.written output.old; flushed = K.flushed output.old; writes_failed = K.faults output.old })
         (record { written = K.written output.new; flushed = K.flushed output.new; writes_failed = K.faults output.new }) result }
 {

@@ -1,6 +1,6 @@
 //! Whole runs over memory: the status and what was written.
 use crate::run::psi_run;
-use psi_outside::{MemoryFiles, MemorySink, MemorySource, Open};
+use psi_outside::{Gate, Held, Hold, MemoryFiles, MemorySink, MemorySource, Open, Point};
 use psi_words::help_text;
 use std::alloc::{AllocError, Global};
 use std::sync::Wait;
@@ -27,6 +27,23 @@ const ADDED: &[u8] =
 const REMOVED: &[u8] =
     b"\x00\x00\x00\x0f\x83\x00\x01\x00\x00\x00\x02\x00\x00\x00\x00\x00\x00\x00\x01";
 
+// The reply to the zero query, number 1 of session 1, at place 0, from the empty set.
+const NO_BUNDLE: &[u8] =
+    b"\x00\x00\x00\x19\x86\x00\x01\x00\x00\x00\x01\x00\x00\x00\x00\x00\x00\x00\x00\x01\x01\x00\x01\x00\x00\x00\x00\x00\x00";
+
+// The same query at place 1, from a set of one bundle: its reply up to the bundle's plane, whose bytes follow.
+const ONE_BUNDLE: &[u8] =
+    b"\x00\x01\x40\x19\x86\x00\x01\x00\x00\x00\x01\x00\x00\x00\x00\x00\x00\x00\x01\x01\x01\x00\x01\x00\x00\x00\x00\x00\x01";
+
+// A put of the item abc, number 1 of session 2, and the replies to it at the places 0 and 1.
+const OTHER_PUT: &[u8] = b"\x00\x00\x00\x0b\x01\x00\x02\x00\x00\x00\x01\x03abc";
+
+const ADDED_FIRST: &[u8] =
+    b"\x00\x00\x00\x0f\x81\x00\x02\x00\x00\x00\x01\x00\x00\x00\x00\x00\x00\x00\x00";
+
+const ADDED_SECOND: &[u8] =
+    b"\x00\x00\x00\x0f\x81\x00\x02\x00\x00\x00\x01\x00\x00\x00\x00\x00\x00\x00\x01";
+
 // What a run leaves: its status, and the bytes that it wrote.
 type Left = (u8, Vec<u8>);
 
@@ -38,6 +55,18 @@ fn run<R: Threads + Wait + Sync>(
     bytes: &[u8],
     answer: &[u8],
 ) -> Result<Left, AllocError> {
+    run_past(rt, alloc, words, bytes, answer, &Open)
+}
+
+// The same, with a gate that its threads pass.
+fn run_past<R: Threads + Wait + Sync, G: Gate>(
+    rt: &R,
+    alloc: Global,
+    words: &[&str],
+    bytes: &[u8],
+    answer: &[u8],
+    gate: &G,
+) -> Result<Left, AllocError> {
     let mut given = Vec::new(alloc);
     for word in words {
         given.push(String::from_str(alloc, word)?)?;
@@ -47,7 +76,7 @@ fn run<R: Threads + Wait + Sync>(
     let mut source = MemorySource::open(bytes.to_vec(alloc)?, 8192, Vec::new(alloc));
     let mut sink = MemorySink::open(alloc, 262144, Vec::new(alloc))?;
     let mut files = MemoryFiles::open(files, Vec::new(alloc));
-    let status = psi_run(rt, alloc, &given, &mut source, &mut files, &mut sink, &Open);
+    let status = psi_run(rt, alloc, &given, &mut source, &mut files, &mut sink, gate);
     Ok((status, sink.bytes().to_vec(alloc)?))
 }
 
@@ -56,7 +85,7 @@ fn words_and_parameters_end_with_their_status(rt: HostRuntime) -> Result<(), Fai
     let rows: [(&[&str], u8, &str); 11] = [
         (&["serve", "1", "1", "0", "9", "0"], 2, ""),
         (&["find", "1"], 2, ""),
-        (&["demo", "1", "1"], 2, ""),
+        (&["demo", "1", "9"], 2, ""),
         (&["serve", "0", "1", "0", "1", "0"], 3, ""),
         (&["help"], 0, help_text()),
         (
@@ -108,13 +137,12 @@ fn zero_query(alloc: Global, number: u8) -> Result<Vec<u8>, AllocError> {
 #[test]
 fn the_zero_query_of_the_empty_set_is_answered(rt: HostRuntime) -> Result<(), Fail> {
     let alloc = rt.alloc();
-    let words = ["serve", "1", "1", "0", "1", "0"];
-    let (status, text) = run(&rt, alloc, &words, &zero_query(alloc, 1)?, b"")?;
-    assert_eq!(rt; status, 0);
-    assert_eq!(rt;
-        text.as_slice(),
-        b"\x00\x00\x00\x19\x86\x00\x01\x00\x00\x00\x01\x00\x00\x00\x00\x00\x00\x00\x00\x01\x01\x00\x01\x00\x00\x00\x00\x00\x00".as_slice()
-    );
+    for workers in ["1", "4"] {
+        let words = ["serve", "1", "1", "0", workers, "0"];
+        let (status, text) = run(&rt, alloc, &words, &zero_query(alloc, 1)?, b"")?;
+        assert_eq!(rt; status, 0, "{workers}");
+        assert_eq!(rt; text.as_slice(), NO_BUNDLE, "{workers}");
+    }
     Ok(())
 }
 
@@ -173,5 +201,77 @@ fn a_replaced_label_is_opened(rt: HostRuntime) -> Result<(), Fail> {
         text.as_slice(),
         b"616263 0 02020202020202020202\n".as_slice()
     );
+    Ok(())
+}
+
+// A query of session 1 and a put of session 2, in one round.
+fn two_sessions(alloc: Global) -> Result<Vec<u8>, AllocError> {
+    let mut bytes = zero_query(alloc, 1)?;
+    bytes.extend_from_slice(OTHER_PUT)?;
+    Ok(bytes)
+}
+
+// Either session may come first.
+#[test]
+fn two_sessions_are_answered_in_one_order(rt: HostRuntime) -> Result<(), Fail> {
+    let alloc = rt.alloc();
+    let words = ["serve", "1", "1", "0", "4", "0"];
+    let (status, text) = run(&rt, alloc, &words, &two_sessions(alloc)?, b"")?;
+    let query_first = text.starts_with(NO_BUNDLE)
+        && text.ends_with(ADDED_SECOND)
+        && text.len() == NO_BUNDLE.len() + ADDED_SECOND.len();
+    let put_first = text.starts_with(ONE_BUNDLE)
+        && text.ends_with(ADDED_FIRST)
+        && text.len() == ONE_BUNDLE.len() + 81920 + ADDED_FIRST.len();
+    assert_eq!(rt; status, 0);
+    assert!(rt; query_first || put_first);
+    Ok(())
+}
+
+// The put waits for the query's turn, and its turn comes before the query is evaluated. Neither comes to its turn before both
+// are there, so their lanes run beside each other.
+#[test]
+fn held_sessions_run_beside_each_other(rt: HostRuntime) -> Result<(), Fail> {
+    let alloc = rt.alloc();
+    let holds = vec![in alloc;
+        Hold {
+            at: (Point::BeforeTurn, 1),
+            until: (Point::AfterTurn, 0)
+        },
+        Hold {
+            at: (Point::AfterTurn, 0),
+            until: (Point::AfterTurn, 1)
+        },
+        Hold {
+            at: (Point::BeforeTurn, 0),
+            until: (Point::BeforeTurn, 1)
+        },
+        Hold {
+            at: (Point::BeforeTurn, 1),
+            until: (Point::BeforeTurn, 0)
+        },
+    ]?;
+    let gate = Held::open(1 << 26, holds);
+    let words = ["serve", "1", "1", "0", "4", "0"];
+    let (status, text) = run_past(&rt, alloc, &words, &two_sessions(alloc)?, b"", &gate)?;
+    let mut want = NO_BUNDLE.to_vec(alloc)?;
+    want.extend_from_slice(ADDED_SECOND)?;
+    assert_eq!(rt; status, 0);
+    assert_eq!(rt; text.as_slice(), want.as_slice());
+    assert!(rt; !gate.late(&rt));
+    for hold in 0..4u32 {
+        assert!(rt; gate.met(&rt, hold), "{hold}");
+    }
+    Ok(())
+}
+
+// The summary of the replies to the script of 7.
+const SUMMARY: &str = "demo 7\nreplies 441\nadded 400\nremoved 37\nasks 3\nstable 38 38 38\n";
+
+#[test]
+fn a_script_is_served_and_counted(rt: HostRuntime) -> Result<(), Fail> {
+    let (status, text) = run(&rt, rt.alloc(), &["demo", "7", "2"], b"", b"")?;
+    assert_eq!(rt; status, 0);
+    assert_eq!(rt; text.as_slice(), SUMMARY.as_bytes());
     Ok(())
 }

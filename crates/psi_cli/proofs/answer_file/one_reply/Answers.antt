@@ -1,7 +1,4 @@
-use Rattle.std.proofs.Common.{◌≡◌, ℕ, List, [], true, Option, None, Some, sym, ap, ◌∙◌, inl, inr}
-use Rattle.std.specs.Option.{IfSome}
-use Rattle.psi_frames.specs.declared.frame.Frame.{Frame}
-use Rattle.psi_cli.specs.AnswerFiles.{IsOneReply}
+use Rattle.std.proofs.Common.{[], ◌∙◌}
 use Rattle.psi_cli.proofs.OneReply.{found_one, met_fault, no_other}
 use Rattle.psi_cli.proofs.answer_file.one_reply.Goals as goal
 

@@ -1,4 +1,4 @@
-use Rattle.std.proofs.Common.{◌≡◌, List, ℕ, Vec, Global, map, sym, ap, ◌∙◌}
+use Rattle.std.proofs.Common.{◌≡◌, ℕ, Vec, Global, map, ap, ◌∙◌}
 use Rattle.item_slots.specs.Tags.{tag_of}
 use Rattle.noise_ledger.specs.Verdicts.{parameters_of}
 use Rattle.psi_cli.specs.Texts.{crowded_text}

@@ -1,4 +1,4 @@
-use Rattle.std.proofs.Common.{◌+◌, ◌-◌, ◌∷◌, [], List, ℕ, length, take, drop, sym, ap, ◌∙◌, arith, None, Some, take_all, length-drop}
+use Rattle.std.proofs.Common.{◌+◌, ◌-◌, ◌∷◌, [], List, ℕ, length, drop, sym, ap, ◌∙◌, arith, None, Some, take_all, length-drop}
 use Rattle.psi_cli.specs.ItemTexts.{item_lines}
 use Rattle.psi_cli.proofs.ItemLines.{first_line}
 use Rattle.psi_cli.proofs.items.first_line.Goals as goal

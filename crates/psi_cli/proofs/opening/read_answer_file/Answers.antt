@@ -1,4 +1,3 @@
-use Rattle.std.proofs.Common.{refl}
 use Rattle.psi_cli.proofs.Made.{file_without}
 use Rattle.psi_cli.proofs.opening.read_answer_file.Goals as goal
 

@@ -1,7 +1,5 @@
-use Rattle.std.proofs.Common.{◌≡◌, List, ℕ, true, false, map, refl, sym, ap, ◌∙◌}
-use Rattle.std.specs.List.{list_all}
-use Rattle.psi_cli.specs.ItemTexts.{items_of}
-use Rattle.psi_cli.proofs.ShortItems.{is_short, item_text, no_item_text, tested}
+use Rattle.std.proofs.Common.{true, false, map, refl, sym, ap, ◌∙◌}
+use Rattle.psi_cli.proofs.ShortItems.{item_text, no_item_text, tested}
 use Rattle.psi_cli.proofs.reading.short_items.Goals as goal
 
 pub returns-then-are_short-clause-text : goal.returns-then-are_short-clause-text

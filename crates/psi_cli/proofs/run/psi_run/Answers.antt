@@ -1,6 +1,7 @@
 use Rattle.psi_cli.specs.Runs.{Judged, given_by}
 use Rattle.psi_cli.specs.Worlds.{World, world}
 use Rattle.psi_cli.proofs.Clauses as clause
+use Rattle.psi_cli.proofs.OneLanes.{one_lane}
 use Rattle.psi_cli.proofs.run.psi_run.Goals as goal
 
 pub returns : goal.returns
@@ -17,9 +18,12 @@ returns g c =
       figures = clause.figures words old new c.run_words.result c.run_words.ensures.runs;
       helped = clause.helped words old new c.run_words.result c.run_words.ensures.runs;
       answered = clause.done words old new c.run_words.result c.run_words.ensures.runs;
+      one_lane = one_lane words old new c.run_words.result c.run_words.ensures.runs;
       served = clause.served words old new c.run_words.result c.run_words.ensures.runs;
       asked = clause.asked words old new c.run_words.result c.run_words.ensures.runs;
       opened = clause.opened words old new c.run_words.result c.run_words.ensures.runs;
+      demonstrated = clause.demonstrated words old new c.run_words.result c.run_words.ensures.runs;
+      shown = clause.shown words old new c.run_words.result c.run_words.ensures.runs;
       ended = clause.ended words old new c.run_words.result c.run_words.ensures.runs;
       complete = clause.complete words old new c.run_words.result c.run_words.ensures.runs;
       bad = clause.bad words old new c.run_words.result c.run_words.ensures.runs;

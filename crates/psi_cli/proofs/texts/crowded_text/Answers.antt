@@ -1,4 +1,4 @@
-use Rattle.std.proofs.Common.{◌+◌, ◌∷◌, List, ℕ, map, take, string_bytes, ap, sym, ◌∙◌}
+use Rattle.std.proofs.Common.{map, take, string_bytes, ap, ◌∙◌}
 use Rattle.psi_cli.specs.Texts.{crowded_text}
 use Rattle.psi_cli.proofs.TextLines.{crowded-more, one_more-taken}
 use Rattle.psi_cli.proofs.texts.crowded_text.Goals as goal
