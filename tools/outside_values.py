@@ -681,6 +681,39 @@ def check_opening(checks):
     checks.same("open: a missing file", ["open"] + p.words() + [seed, "/nonexistent/reply"], asked, 5, b"")
 
 
+def last_frame(text):
+    """The last whole frame of a text."""
+    at = last = 0
+    while at < len(text):
+        last, at = at, at + 4 + int.from_bytes(text[at:at + 4], "big")
+    return text[last:]
+
+
+def check_many_workers(checks):
+    """A thousand items on four workers with two builders: the receiver finds all of the set's that it asks for, with their labels."""
+    p = Params(1, 16, 1)
+    named = [b"item-%d" % i for i in range(120)]
+    labels = {item: b"%010d" % i for i, item in enumerate(named)}
+    puts = [put(1 + i % 4, i, b"item-%d" % i, b"%010d" % i) for i in range(1000)]
+    asked = b"\n".join(named + [b"other-%d" % i for i in range(80)])
+    query = checks.run(["ask"] + p.words() + [SEED.hex(), "5", "1000"], asked)
+    run = checks.run(serve(p, 4, 2), request_bytes(puts + [GO]) + query.stdout)
+    with tempfile.NamedTemporaryFile() as file:
+        file.write(last_frame(run.stdout))
+        file.flush()
+        opened = checks.run(["open"] + p.words() + [SEED.hex(), file.name], asked)
+    found = {bytes.fromhex(item): bytes.fromhex(label) for item, _, label in (line.split() for line in opened.stdout.decode().splitlines())}
+    good = (query.returncode, run.returncode, opened.returncode) == (0, 0, 0)
+    checks.tell("many workers: all are found with their labels", good and labels.items() <= found.items(), f"{len(found)} found")
+    checks.tell("many workers: no others are", good and found.keys() == labels.keys(), f"{len(found)} found")
+
+
+def check_demo(checks):
+    text = b"demo 7\nreplies 441\nadded 400\nremoved 37\nasks 3\nstable 38 38 38\n"
+    for workers in ("1", "2", "4", "8", "4"):
+        checks.same(f"demo by {workers} workers", ["demo", "7", workers], b"", 0, text)
+
+
 def main(program):
     checks = Checks(program)
     check_words(checks)
@@ -688,6 +721,8 @@ def main(program):
     check_serving(checks)
     check_asking(checks)
     check_opening(checks)
+    check_many_workers(checks)
+    check_demo(checks)
     print(f"outside values: {checks.count - checks.failed} agree, {checks.failed} differ")
     return 1 if checks.failed else 0
 
