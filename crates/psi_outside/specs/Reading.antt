@@ -2,6 +2,7 @@
 use Rattle.std.specs.Prelude.{◌≡◌, ◌<◌, ◌≤◌, ℕ, List, length, OnOk, IfErr, IfSome, ⊤}
 use Rattle.std.specs.declared.option.Option.{Option}
 use Rattle.std.specs.declared.result.Result.{Result}
+use Rattle.std.specs.Io.KnownBytes.{Consumes}
 use Rattle.psi_outside.specs.Causes.{count_on}
 use Rattle.psi_outside.specs.declared.faults.ReadFault.{ReadFault}
 use Rattle.psi_outside.specs.declared.faults.ReadFault.TheVariants.{Failed, TooLong, NoMemory}
@@ -23,3 +24,9 @@ abbrev pub IsLonger : ℕ → Option (List ℕ) → ReadFault → Type 0
 IsLonger limit left Failed = ⊤
 IsLonger limit left TooLong = IfSome left (λ bytes. limit < length bytes)
 IsLonger limit left NoMemory = ⊤
+
+-- a read failed behind the limit's bytes at most, if the fault says that one did
+abbrev pub IsWithin : ℕ → (old new : Option (List ℕ)) → ReadFault → Type 0
+IsWithin limit old new Failed = (taken : List ℕ) × Consumes old new taken × (length taken ≤ limit)
+IsWithin limit old new TooLong = ⊤
+IsWithin limit old new NoMemory = ⊤

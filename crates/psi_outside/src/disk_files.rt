@@ -40,7 +40,7 @@ impl<'r, R: Disk> Files for DiskFiles<'r, R> {
 }
 
 // Reads a file that was opened to its end. One that could not be opened is `Failed`.
-pub(crate) fn read_opened<R: Read + Drop>(
+fn read_opened<R: Read + Drop>(
     opened: io::Result<R>,
     alloc: Global,
     max: u64,

@@ -18,6 +18,8 @@ mod reading;
 mod sink;
 mod source;
 #[cfg(test)]
+mod starved;
+#[cfg(test)]
 mod tests;
 mod writer_sink;
 mod writing;

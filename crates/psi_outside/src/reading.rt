@@ -1,7 +1,7 @@
 //! Reading a source to its end.
 ghost use Rattle.std.specs.Prelude.{◌≡◌, ◌≤◌, ◌<◌, ◌+◌, ◌++◌, List, [], ℕ, Some, length, IfOk, OnOk, IfErr, OnErr, IfSome};
 ghost use Rattle.std.specs.Io.KnownBytes.{Consumes};
-ghost use Rattle.psi_outside.specs.Reading.{HasReadCause, IsLonger, IsReadCounted};
+ghost use Rattle.psi_outside.specs.Reading.{HasReadCause, IsLonger, IsReadCounted, IsWithin};
 
 use crate::{ReadFault, Source};
 use std::alloc::Global;
@@ -12,7 +12,7 @@ const PIECE: usize = 8192;
 /// All bytes that a source has left, at most `limit` of them.
 ///
 /// Where the source tells its bytes, Ok gives all of them and leaves none, `TooLong` comes only where they are more
-/// than `limit`, and after each fault a front of them was taken. The source's count of faults rises by one where the
+/// than `limit`, and after each fault a front of them was taken: at most `limit` bytes where a read failed. The source's count of faults rises by one where the
 /// answer is `Failed`, and stays as it was at every other answer.
 pub fn read_all<S: Source>(
     alloc: Global,
@@ -24,6 +24,7 @@ pub fn read_all<S: Source>(
     ensures bound { IfOk result (λ bytes. length bytes.items ≤ limit) }
     ensures longer { IfErr result (IsLonger limit (S.left source.old)) }
     ensures front { OnErr result ((taken : List ℕ) × Consumes (S.left source.old) (S.left source.new) taken) }
+    ensures within { IfErr result (IsWithin limit (S.left source.old) (S.left source.new)) }
     ensures cause { HasReadCause (S.faults source.old) (S.faults source.new) result }
 {
     let mut bytes = Vec::new(alloc);

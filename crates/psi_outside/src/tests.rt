@@ -1,7 +1,7 @@
 ghost use Rattle.std.specs.Prelude.{◌<◌, ◌^◌};
 
 use super::*;
-use crate::disk_files::read_opened;
+use crate::starved::Starved;
 use std::alloc::{AllocError, Global};
 use std::io::{ErrorKind, Read, Write};
 use std::sync::Wait;
@@ -244,7 +244,8 @@ fn files_on_the_disk_are_read_whole_or_refused(rt: HostRuntime) -> Result<(), Fa
             "{name}"
         );
     }
-    let starved = read_opened(Ok(Blocked(ErrorKind::OutOfMemory)), alloc, 9);
-    assert!(rt; is_answer(&starved, Err(FileFault::NoMemory)));
+    let mut starved = DiskFiles::open(&Starved);
+    let answer = read_within(alloc, &mut starved, "full", 9);
+    assert!(rt; is_answer(&answer, Err(FileFault::NoMemory)));
     Ok(())
 }

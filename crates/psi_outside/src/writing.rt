@@ -8,13 +8,14 @@ use crate::{Failed, Sink};
 
 /// Writes all of the text and flushes it. An empty text is flushed too.
 ///
-/// `Failed` comes where a write or the flush failed: the sink's count of faults rises by one, and a front of the text
-/// was written. Where the answer is Ok no write and no flush failed, so the count is as before.
+/// `Failed` comes where a write or the flush failed: the sink's count of faults rises by one, a front of the text was
+/// written, and as many bytes are flushed as before. Where the answer is Ok no write and no flush failed, so the count is as before.
 #[tactic(auto, using(crate::proofs::Pieces::whole_kept))]
 pub fn write_all<K: Sink>(sink: &mut K, text: &[u8]) -> Result<(), Failed>
     ensures written { OnOk result (Appends (K.written sink.old) (K.written sink.new) text.now) }
     ensures flushed { OnOk result (IsAllFlushed (K.written sink.new) (K.flushed sink.new)) }
     ensures front { OnErr result ((n : ℕ) × Appends (K.written sink.old) (K.written sink.new) (take n text.now)) }
+    ensures unflushed { OnErr result (K.flushed sink.new ≡ K.flushed sink.old) }
     ensures cause { HasCause (K.faults sink.old) (K.faults sink.new) result }
 {
     write_pieces(sink, text)?;
@@ -25,6 +26,7 @@ pub fn write_all<K: Sink>(sink: &mut K, text: &[u8]) -> Result<(), Failed>
 fn write_pieces<K: Sink>(sink: &mut K, text: &[u8]) -> Result<(), Failed>
     ensures written { OnOk result (Appends (K.written sink.old) (K.written sink.new) text.now) }
     ensures front { OnErr result ((n : ℕ) × Appends (K.written sink.old) (K.written sink.new) (take n text.now)) }
+    ensures unflushed { K.flushed sink.new ≡ K.flushed sink.old }
     ensures cause { HasCause (K.faults sink.old) (K.faults sink.new) result }
 {
     let mut rest = text;
