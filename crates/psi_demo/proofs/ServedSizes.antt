@@ -117,7 +117,7 @@ body-size v query same sound =
     let cts = evaluated_rows p v.rows query in
     let each_row : length counts ≡ p.rows = length-map v.rows (λ (row : Row). length row) ∙ sound.each_row ∙ ap (λ (q : Parameters). q.rows) same in
     let back : reply_counts p (reply_bytes p counts cts) ≡ counts = counts_back p counts cts each_row (λ i. small-counts p v.rows i limits) in
-    let size = (is-reply v query same sound).size in
+    let size = (is-reply v query same sound).head.size in
     let whole : length (reply_bytes p counts cts) ≡ reply_length p counts = size ∙ ap (reply_length p) back in
     let few : sum counts * 2 ≤ 64 = limits.0 in
     omega (arith, whole, few)

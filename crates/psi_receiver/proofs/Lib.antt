@@ -13,3 +13,4 @@ pub mod TagBytes
 pub mod Members
 pub mod Writes
 pub mod Opened
+pub mod Planes

@@ -1,19 +1,22 @@
 -- What is written of a query: a tag's slot values, and the ciphertexts of all rows and powers.
-use Rattle.std.proofs.Common.{◌≡◌, ◌⊎◌, ℕ, zero, suc, ◌+◌, ◌*◌, ◌/◌, ◌%◌, ◌^◌, ◌<◌, ◌≤◌, Bool, List, [], ◌∷◌, length, get_or, set, map, drop, Result, Ok, ap, subst, ◌∙◌, sym, inl, inr, arith}
+use Rattle.std.proofs.Common.{◌≡◌, ◌⊎◌, ℕ, zero, suc, ◌+◌, ◌*◌, ◌/◌, ◌%◌, ◌^◌, ◌<◌, ◌≤◌, Bool, List, [], ◌∷◌, ◌++◌, length, get_or, set, map, drop, Result, Ok, ap, subst, ◌∙◌, sym, inl, inr, arith}
 use Rattle.std.specs.Prelude.{◌==◌, if◌then◌else◌}
-use Rattle.std.specs.List.{AllZip, range_with_len}
+use Rattle.std.specs.List.{AllZip, flat_map, range_with_len}
 use Rattle.std.specs.Result.{IfOk}
 use Rattle.std.proofs.lemmas.Bool.{cases_eq, cases_lt, eq-eqb, le-ltb, lt-ltb, ne_eqb}
 use Rattle.std.proofs.lemmas.List.{get_or-set_same, get_or-set_other, length-set}
+use Rattle.std.proofs.lemmas.List.Folds.{flat_map-map}
 use Rattle.std.proofs.lemmas.List.FromFn.{get_or-map-range_with_len}
 use Rattle.std.proofs.Math.Nat.{div-lt_iff_lt-mul}
-use Rattle.psi_residue.specs.Parameters.{Parameters}
+use Rattle.psi_residue.specs.Parameters.{Parameters, parameter_bytes}
 use Rattle.psi_residue.specs.Slots.{packed_list}
 use Rattle.psi_residue.proofs.Sums.{same_as_table}
 use Rattle.item_slots.specs.Tags.{slot_value}
 use Rattle.bfv_core.specs.EncryptedLists.{encrypted}
+use Rattle.query_codec.specs.Ciphertexts.{ciphertext_bytes, ciphertexts_bytes}
+use Rattle.query_codec.proofs.QueryBodies.{query_body-is}
 use Rattle.psi_receiver.specs.declared.placement.Placed.{Placed}
-use Rattle.psi_receiver.specs.Queries.{bin_value, powers_of, query_ciphertext, query_ciphertexts, query_value, row_values}
+use Rattle.psi_receiver.specs.Queries.{bin_value, powers_of, query_ciphertext, query_ciphertexts, query_of, query_value, row_values}
 use Rattle.psi_receiver.proofs.Steps.{bin_value-here, bin_value-next, bin_value-end}
 
 -- ---- one tag
@@ -142,16 +145,34 @@ ciphertexts-made p seed placed values capacity n some same are number =
         ap (λ (vs : List (List ℕ)). get_or vs (c / p.capacity) []) are
         ∙ get_or-map-range_with_len (row_values placed) 0 p.rows (c / p.capacity) (c / p.capacity) [] ((div-lt_iff_lt-mul some).1 lt) (omega arith)
 
--- results that are all there are the values
-pub all-there : {X T E : Type 0} (f : X → T) (xs : List X) (rs : List (Result T E)) (ys : List T) → AllZip (λ x r. IfOk r (λ y. y ≡ f x)) xs rs → rs ≡ map Ok ys → ys ≡ map f xs
-all-there f [] [] [] all e = λ i. []
-all-there f [] [] (y ∷ ys) all e = absurd cc
-all-there f [] (r ∷ rs) ys all e = absurd all
-all-there f (x ∷ xs) [] ys all e = absurd all
-all-there f (x ∷ xs) (r ∷ rs) [] all e = absurd cc
-all-there {X} {T} {E} f (x ∷ xs) (r ∷ rs) (y ∷ ys) all e =
+-- the bytes of the pieces, one after another, are those of all ciphertexts
+pub bytes-made : {V : Type 0} (view : V → List ℕ) (p : Parameters) (seed : List ℕ) (placed : List Placed) (values : List (List ℕ)) (capacity n : ℕ) (pieces : List V)
+    → 1 ≤ p.capacity → capacity ≡ p.capacity → values ≡ map (row_values placed) (range_with_len 0 p.rows) → n ≡ p.rows * p.capacity
+    → map view pieces ≡ map (λ c. ciphertext_bytes (encrypted seed c (packed_list (powers_of (get_or values (c / capacity) []) (c % capacity + 1))))) (range_with_len 0 n)
+    → flat_map view pieces ≡ ciphertexts_bytes (query_ciphertexts p seed placed)
+unfolding ciphertexts_bytes
+bytes-made view p seed placed values capacity n pieces some same are number told =
+    let made : ℕ → List (List ℕ) = λ c. encrypted seed c (packed_list (powers_of (get_or values (c / capacity) []) (c % capacity + 1))) in
+    sym (flat_map-map (λ ys. ys) view pieces)
+    ∙ ap (flat_map (λ ys. ys)) told
+    ∙ flat_map-map (λ ys. ys) (λ c. ciphertext_bytes (made c)) (range_with_len 0 n)
+    ∙ sym (flat_map-map ciphertext_bytes made (range_with_len 0 n))
+    ∙ ap (flat_map ciphertext_bytes) (ciphertexts-made p seed placed values capacity n some same are number)
+
+-- and behind the parameters they are the query's body
+pub pieces-body : (p : Parameters) (seed : List ℕ) (placed : List Placed) (text body : List ℕ) → text ≡ ciphertexts_bytes (query_ciphertexts p seed placed) → body ≡ parameter_bytes p ++ text → body ≡ query_of p seed placed
+pieces-body p seed placed text body told written = written ∙ ap (λ (ys : List ℕ). parameter_bytes p ++ ys) told ∙ query_body-is p (query_ciphertexts p seed placed)
+
+-- results that are all there show the values
+pub all-shown : {X T B E : Type 0} (f : X → B) (view : T → B) (xs : List X) (rs : List (Result T E)) (ys : List T) → AllZip (λ x r. IfOk r (λ y. view y ≡ f x)) xs rs → rs ≡ map Ok ys → map view ys ≡ map f xs
+all-shown f view [] [] [] all e = λ i. []
+all-shown f view [] [] (y ∷ ys) all e = absurd cc
+all-shown f view [] (r ∷ rs) ys all e = absurd all
+all-shown f view (x ∷ xs) [] ys all e = absurd all
+all-shown f view (x ∷ xs) (r ∷ rs) [] all e = absurd cc
+all-shown {X} {T} {B} {E} f view (x ∷ xs) (r ∷ rs) (y ∷ ys) all e =
     let here : r ≡ Ok y = cc in
     let later : rs ≡ map Ok ys = cc in
-    let value : y ≡ f x = subst (λ (q : Result T E). IfOk q (λ v. v ≡ f x)) here all.0 in
-    let rest = all-there f xs rs ys all.1 later in
+    let value : view y ≡ f x = subst (λ (q : Result T E). IfOk q (λ v. view v ≡ f x)) here all.0 in
+    let rest = all-shown f view xs rs ys all.1 later in
     λ i. value i ∷ rest i

@@ -4,6 +4,7 @@ use Rattle.cuckoo_place.specs.Placements.{IsPlacement, IsCrowded, HasNoPlacement
 use Rattle.cuckoo_place.specs.declared.Unplaced.{Unplaced}
 use Rattle.cuckoo_place.specs.declared.Unplaced.TheVariants as unplaced
 use Rattle.query_codec.specs.declared.fault.CodecFault.{CodecFault}
+use Rattle.query_codec.specs.declared.fault.CodecFault.TheVariants as codec
 use Rattle.psi_receiver.specs.declared.fault.AskFault.{AskFault}
 use Rattle.psi_receiver.specs.declared.fault.AskFault.TheVariants as ask
 use Rattle.psi_receiver.specs.declared.fault.OpenFault.{OpenFault}
@@ -44,3 +45,17 @@ ask_unplaced unplaced.NoMemory = ask.NoMemory
 abbrev pub open_unplaced : Unplaced → OpenFault
 open_unplaced (unplaced.Crowded items) = opening.Crowded items
 open_unplaced unplaced.NoMemory = opening.NoMemory
+
+-- a reply that is not read is a fault of opening
+abbrev pub open_unread : CodecFault → OpenFault
+open_unread (codec.Length want) = opening.Codec (codec.Length want)
+open_unread codec.WrongParams = opening.Codec codec.WrongParams
+open_unread (codec.Residue index) = opening.Codec (codec.Residue index)
+open_unread codec.NoMemory = opening.NoMemory
+
+-- why a reply is not read, by its fault
+abbrev pub IsUnread : (reply : Option CodecFault) → OpenFault → Type 0
+IsUnread reply (opening.TooLong item) = ⊥
+IsUnread reply (opening.Crowded items) = ⊥
+IsUnread reply (opening.Codec fault) = reply ≡ Some fault
+IsUnread reply opening.NoMemory = ⊤

@@ -1,15 +1,17 @@
 -- What a reply opens to: the placed items whose slots are 0 in the root plane of a bundle (Chen, Laine, Rindal, CCS 2017), with the labels
 -- that the other planes give (Chen, Huang, Laine, Rindal, CCS 2018). It speaks of the reply alone, and of the receiver's key.
-use Rattle.std.specs.Prelude.{◌≡◌, ℕ, Bool, ◌+◌, ◌*◌, ◌/◌, ◌%◌, nat_eq, List, [], map, take, filter, slice_index, slice_index_or, ℤ}
+use Rattle.std.specs.Prelude.{◌≡◌, ℕ, Bool, ◌+◌, ◌*◌, ◌/◌, ◌%◌, nat_eq, List, [], map, take, drop, filter, slice_index, slice_index_or, ℤ}
 use Rattle.std.specs.List.{flat_map, list_all, range_with_len, sum}
 use Rattle.std.specs.Int.{bytes_high_first}
+use Rattle.psi_residue.specs.Numbers.{ring_degree}
 use Rattle.psi_residue.specs.Parameters.{Parameters}
 use Rattle.psi_residue.specs.Slots.{slots_of}
 use Rattle.item_slots.specs.Tags.{bins_of_row, parts}
 use Rattle.psi_bundle.specs.Planes.{planes_of_bundle}
 use Rattle.bfv_core.specs.Encryptions.{opening}
 use Rattle.bfv_core.specs.EncryptedLists.{key_of_seed}
-use Rattle.query_codec.specs.Replies.{reply_counts, reply_ciphertexts}
+use Rattle.query_codec.specs.Ciphertexts.{AreBelow}
+use Rattle.query_codec.specs.Replies.{reply_ciphertext, reply_ciphertexts, reply_counts, reply_head}
 use Rattle.psi_receiver.specs.declared.placement.Placed.{Placed}
 use Rattle.psi_receiver.specs.declared.found.Found.{Found}
 use Rattle.psi_receiver.specs.Placements.{ArePlaced}
@@ -57,6 +59,11 @@ opened reply placed = flat_map (opened_item reply) placed
 -- the slots of what a ciphertext opens to under a key
 abbrev pub opened_slots : (key : List ℤ) → List (List ℕ) → List ℕ
 opened_slots key ct = slots_of (opening key ct)
+
+-- the slots are what ciphertext number c of a reply body opens to, and its residues are below their moduli
+pub record IsOpenedPlane (p : Parameters) (key : List ℤ) (body : List ℕ) (c : ℕ) (slots : List ℕ) : Type 0 where
+  pub opened : slots ≡ opened_slots key (reply_ciphertext p body c)
+  pub below : AreBelow (drop (reply_head p) body) (4 * ring_degree * c) (4 * ring_degree * (c + 1))
 
 -- a reply body, read under the parameters and opened by the key of a seed
 abbrev pub reply_of : Parameters → (seed body : List ℕ) → Reply

@@ -11,7 +11,7 @@ use crate::placement::place_tags;
 use crate::query::encrypt_query;
 use item_slots::{Tag, tag_of};
 use noise_ledger::Params;
-use query_codec::write_query;
+use query_codec::join_query;
 use std::alloc::{AllocError, Global};
 use std::thread::Threads;
 
@@ -58,8 +58,8 @@ pub fn ask_tags<R: Threads + Sync>(
     ensures fault { IfErr result (IsAskFault params.now.rows None tags.now) }
 {
     let placed = place_tags(alloc, tags, params.rows)?;
-    let query = encrypt_query(rt, alloc, params, seed, &placed)?;
-    Ok(write_query(alloc, params, &query)?)
+    let pieces = encrypt_query(rt, alloc, params, seed, &placed)?;
+    Ok(join_query(alloc, params, &pieces)?)
 }
 
 /// The number of the first item that is longer than 255 bytes.

@@ -84,3 +84,16 @@ impl From<Unplaced> for OpenFault {
         }
     }
 }
+
+impl From<CodecFault> for OpenFault {
+    ghost use Rattle.psi_receiver.specs.Faults.{open_unread};
+
+    ghost from_gives = { λ unread fault. fault ≡ open_unread unread };
+
+    fn from(fault: CodecFault) -> OpenFault {
+        match fault {
+            CodecFault::NoMemory => OpenFault::NoMemory,
+            other => OpenFault::Codec(other),
+        }
+    }
+}

@@ -5,23 +5,26 @@ ghost use Rattle.std.specs.List.{All, flat_map, list_all, position, sum};
 ghost use Rattle.item_slots.specs.Tags.{bins_of_row, parts, tag_of};
 ghost use Rattle.noise_ledger.specs.Verdicts.{parameters_of, ArePassed};
 ghost use Rattle.psi_bundle.specs.Planes.{planes_of_bundle};
-ghost use Rattle.query_codec.specs.Replies.{IsReply, reply_fault};
-ghost use Rattle.psi_receiver.specs.Faults.{is_long, IsOpenFault};
-ghost use Rattle.psi_receiver.specs.Openings.{AreOpened, opened, opened_item, opened_slots, value_in};
+ghost use Rattle.query_codec.specs.Replies.{IsReply, IsReplyHead, planes_of, reply_ciphertexts, reply_counts, reply_fault};
+ghost use Rattle.psi_receiver.specs.Faults.{is_long, IsOpenFault, IsUnread};
+ghost use Rattle.psi_receiver.specs.Openings.{AreOpened, IsOpenedPlane, opened, opened_item, opened_slots, value_in};
 
 use crate::asking::{first_long, tags_of};
 use crate::fault::OpenFault;
 use crate::found::Found;
 use crate::placement::{Placed, place_tags};
 use crate::slots::{BINS, PARTS, Slots};
-use bfv_core::{Ciphertext, SecretKey};
+use bfv_core::SecretKey;
 use item_slots::Tag;
 use noise_ledger::Params;
 use psi_bundle::Label;
-use query_codec::{CodecFault, ReplyBody, read_reply};
+use query_codec::{CodecFault, read_reply, read_reply_ciphertext, read_reply_head};
 use rayon::prelude::*;
 use std::alloc::{AllocError, Global};
 use std::thread::Threads;
+
+// The least items that a thread of its own looks up.
+const LOOKED_UP: usize = 64;
 
 /// The items that a reply to their query opens to, with their labels, by item and then by bundle.
 ///
@@ -66,37 +69,84 @@ pub fn open_tags<R: Threads + Sync>(
     ensures fault { IfErr result (IsOpenFault params.now.rows None tags.now (reply_fault (parameters_of params.now) reply.now)) }
 {
     let placed = place_tags(alloc, tags, params.rows)?;
-    let body = match read_reply(alloc, params, reply) {
-        Ok(body) => body,
-        Err(CodecFault::NoMemory) => return Err(OpenFault::NoMemory),
-        Err(fault) => return Err(OpenFault::Codec(fault)),
-    };
+    let counts = read_reply_head(alloc, params, reply)?;
     let key = SecretKey::of(alloc, seed)?;
-    let planes = open_ciphertexts(rt, alloc, &key, body.cts.items())?;
-    Ok(open_placed(alloc, params, body.counts.items(), &planes, &placed)?)
+    let number = planes(params, counts.items());
+    match open_ciphertexts(rt, alloc, params, &key, reply, number) {
+        Ok(planes) => Ok(open_placed(rt, alloc, params, counts.items(), &planes, &placed)?),
+        Err(_) => Err(first_fault(alloc, params, reply)),
+    }
 }
 
-// The slots of what each ciphertext opens to, each opened by itself, in threads.
+// The ciphertexts of a reply with these numbers of bundles.
+fn planes(params: &Params, counts: &[u16]) -> usize
+    requires units { params.now.units ≤ 4 }
+    requires rows { length counts.now ≤ 4 }
+    ensures { result ≡ planes_of_bundle (parameters_of params.now) * sum counts.now }
+{
+    (1 + usize::from(params.units)) * bundles_before(counts, counts.len())
+}
+
+// Why a reply is not read: the first of its residues that is not below its modulus, whichever thread met one, or want of
+// memory.
+fn first_fault(alloc: Global, params: &Params, reply: &[u8]) -> OpenFault
+    requires { ArePassed (parameters_of params.now) }
+    ensures { IsUnread (reply_fault (parameters_of params.now) reply.now) result }
+{
+    match read_reply(alloc, params, reply) {
+        Ok(_) => OpenFault::NoMemory,
+        Err(fault) => OpenFault::from(fault),
+    }
+}
+
+// The slots of what each ciphertext of a reply opens to, each read and opened by itself, in threads. A reply whose
+// ciphertexts are all read is one.
 fn open_ciphertexts<R: Threads + Sync>(
     rt: &R,
     alloc: Global,
+    params: &Params,
     key: &SecretKey,
-    cts: &[Ciphertext],
-) -> Result<Vec<Slots>, AllocError>
-    ensures { IfOk result (λ planes. planes.items ≡ map (opened_slots key.now) cts.now) }
+    reply: &[u8],
+    number: usize,
+) -> Result<Vec<Slots>, CodecFault>
+    requires passed { ArePassed (parameters_of params.now) }
+    requires head { IsReplyHead (parameters_of params.now) reply.now }
+    requires number { number ≡ planes_of (parameters_of params.now) (reply_counts (parameters_of params.now) reply.now) }
+    ensures opened { IfOk result (λ planes. planes.items ≡ map (opened_slots key.now) (reply_ciphertexts (parameters_of params.now) reply.now)) }
+    ensures reply { OnOk result (IsReply (parameters_of params.now) reply.now) }
 {
-    cts.par_iter()
+    (0..number)
+        .into_par_iter()
         .with_min_len(1)
         .map(
-            |ct: &Ciphertext| -> Result<Slots, AllocError>
-                ensures { IfOk result (λ slots. slots ≡ opened_slots key.entry.now ct.now) }
-            { Slots::opened(alloc, key, ct) },
+            |c: usize| -> Result<Slots, CodecFault>
+                requires { (c < planes_of (parameters_of params.now) (reply_counts (parameters_of params.now) reply.now)) × ArePassed (parameters_of params.now) × IsReplyHead (parameters_of params.now) reply.now }
+                ensures { IfOk result (IsOpenedPlane (parameters_of params.entry.now) key.entry.now reply.entry.now c) }
+            { open_ciphertext(alloc, params, key, reply, c) },
         )
-        .collect::<Result<Vec<Slots>, AllocError>>(rt, alloc)?
+        .collect::<Result<Vec<Slots>, CodecFault>>(rt, alloc)?
 }
 
-// What opened planes give for placed tags.
-fn open_placed(
+// The slots of what ciphertext number `c` of a reply opens to.
+fn open_ciphertext(
+    alloc: Global,
+    params: &Params,
+    key: &SecretKey,
+    reply: &[u8],
+    c: usize,
+) -> Result<Slots, CodecFault>
+    requires passed { ArePassed (parameters_of params.now) }
+    requires head { IsReplyHead (parameters_of params.now) reply.now }
+    requires within { c < planes_of (parameters_of params.now) (reply_counts (parameters_of params.now) reply.now) }
+    ensures { IfOk result (IsOpenedPlane (parameters_of params.now) key.now reply.now c) }
+{
+    let ct = read_reply_ciphertext(alloc, params, reply, c)?;
+    Ok(Slots::opened(alloc, key, &ct)?)
+}
+
+// What opened planes give for placed tags, some tags in each thread.
+fn open_placed<R: Threads + Sync>(
+    rt: &R,
     alloc: Global,
     params: &Params,
     counts: &[u16],
@@ -108,27 +158,45 @@ fn open_placed(
     requires whole { length planes.now ≡ planes_of_bundle (parameters_of params.now) * sum counts.now }
     ensures { IfOk result (λ found. found.items ≡ opened (record { parameters = parameters_of params.now; counts = counts.now; planes = planes.now }) placed.now) }
 {
-    let mut found = Vec::new(alloc);
-    for x in placed {
-        open_item(alloc, params, counts, planes, x, &mut found)?;
-    }
-    Ok(found)
+    let lists = placed
+        .par_iter()
+        .with_min_len(LOOKED_UP)
+        .map(
+            |x: &Placed| -> Result<Vec<Found>, AllocError>
+                requires { (x.now.position < bins_of_row * length counts.now) × (params.now.units ≤ 4) × (length planes.now ≡ planes_of_bundle (parameters_of params.now) * sum counts.now) }
+                ensures { IfOk result (λ found. found.items ≡ opened_item (record { parameters = parameters_of params.entry.now; counts = counts.entry.now; planes = planes.entry.now }) x.now) }
+            { open_item(alloc, params, counts, planes, x) },
+        )
+        .collect::<Result<Vec<Vec<Found>>, AllocError>>(rt, alloc)??;
+    join(alloc, lists)
 }
 
-// Adds the bundles in which a placed tag opens.
+// Lists, one after another.
+fn join(alloc: Global, lists: Vec<Vec<Found>>) -> Result<Vec<Found>, AllocError>
+    ensures { IfOk result (λ all. all.items ≡ flat_map (λ list. list.items) lists.items) }
+{
+    let mut all = Vec::new(alloc);
+    for list in lists {
+        let mut list = list;
+        all.append(&mut list)?;
+    }
+    Ok(all)
+}
+
+// The bundles in which a placed tag opens.
 fn open_item(
     alloc: Global,
     params: &Params,
     counts: &[u16],
     planes: &[Slots],
     x: &Placed,
-    found: &mut Vec<Found>,
-) -> Result<(), AllocError>
+) -> Result<Vec<Found>, AllocError>
     requires few { params.now.units ≤ 4 }
     requires within { x.now.position < bins_of_row * length counts.now }
     requires whole { length planes.now ≡ planes_of_bundle (parameters_of params.now) * sum counts.now }
-    ensures { OnOk result (found.new.items ≡ found.old.items ++ opened_item (record { parameters = parameters_of params.now; counts = counts.now; planes = planes.now }) x.now) }
+    ensures { IfOk result (λ found. found.items ≡ opened_item (record { parameters = parameters_of params.now; counts = counts.now; planes = planes.now }) x.now) }
 {
+    let mut found = Vec::new(alloc);
     let row = usize::from(x.position) / BINS;
     let bin = usize::from(x.position) % BINS;
     let first = bundles_before(counts, row);
@@ -142,7 +210,7 @@ fn open_item(
             })?;
         }
     }
-    Ok(())
+    Ok(found)
 }
 
 // The planes of a bundle, by the number of bundles before it: the root plane and the label units' planes.

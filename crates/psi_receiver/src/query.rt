@@ -1,21 +1,23 @@
 //! The ciphertexts of a query.
 ghost use Rattle.std.specs.Prelude.{◌≡◌, ◌==◌, ◌<◌, ◌≤◌, ◌*◌, ◌/◌, ◌%◌, ◌+◌, ◌^◌, ℕ, [], IfOk, length, map, slice_index, slice_index_or, if◌then◌else◌};
-ghost use Rattle.std.specs.List.{All, range_with_len};
+ghost use Rattle.std.specs.List.{All, flat_map, range_with_len};
 ghost use Rattle.psi_residue.specs.Numbers.{plain_modulus, ring_degree};
 ghost use Rattle.psi_residue.specs.Polynomials.{IsPolynomial};
 ghost use Rattle.psi_residue.specs.Slots.{packed_list};
 ghost use Rattle.item_slots.specs.Tags.{bins_of_row, slot_value};
 ghost use Rattle.noise_ledger.specs.Verdicts.{parameters_of, ArePassed};
 ghost use Rattle.bfv_core.specs.EncryptedLists.{encrypted, key_of_seed};
+ghost use Rattle.query_codec.specs.Ciphertexts.{ciphertext_bytes, ciphertexts_bytes};
 ghost use Rattle.psi_receiver.specs.Queries.{powers_of, query_ciphertexts, row_values};
 
 use crate::placement::Placed;
 use crate::slots::{BINS, PARTS, Slots};
 use batching::pack;
-use bfv_core::{Ciphertext, SecretKey, encrypt};
+use bfv_core::{SecretKey, encrypt};
 use item_slots::{Tag, slots};
 use noise_ledger::Params;
 use psi_residue::{Modulus, N, pow};
+use query_codec::write_ciphertext;
 use rayon::prelude::*;
 use std::alloc::{AllocError, Global};
 use std::thread::Threads;
@@ -23,24 +25,24 @@ use std::thread::Threads;
 // The value of a slot that holds no item, which is above every slot value.
 const EMPTY: u32 = 65536;
 
-/// The ciphertexts of the query of placed tags: for each row and power one that encrypts the powers of the row's slot
-/// values, each made by itself, in threads. The parameters are passed ones.
+/// The bytes of the ciphertexts of the query of placed tags: for each row and power one that encrypts the powers of the
+/// row's slot values, each made and written by itself, in threads. The parameters are passed ones.
 pub fn encrypt_query<R: Threads + Sync>(
     rt: &R,
     alloc: Global,
     params: &Params,
     seed: &[u8; 32],
     placed: &[Placed],
-) -> Result<Vec<Ciphertext>, AllocError>
+) -> Result<Vec<Vec<u8>>, AllocError>
     requires { ArePassed (parameters_of params.now) }
-    ensures query { IfOk result (λ cts. cts.items ≡ query_ciphertexts (parameters_of params.now) seed.now placed.now) }
+    ensures { IfOk result (λ pieces. flat_map (λ piece. piece.items) pieces.items ≡ ciphertexts_bytes (query_ciphertexts (parameters_of params.now) seed.now placed.now)) }
 {
     let key = SecretKey::of(alloc, seed)?;
     let values = values_of_rows(alloc, placed, params.rows)?;
     encrypt_powers(rt, alloc, u32::from(params.capacity), &key, seed, &values)
 }
 
-// The ciphertexts of all rows and powers, by row and then by power, where the rows' slots have these values.
+// The bytes of the ciphertexts of all rows and powers, by row and then by power, where the rows' slots have these values.
 fn encrypt_powers<R: Threads + Sync>(
     rt: &R,
     alloc: Global,
@@ -48,28 +50,28 @@ fn encrypt_powers<R: Threads + Sync>(
     key: &SecretKey,
     seed: &[u8; 32],
     values: &[Slots],
-) -> Result<Vec<Ciphertext>, AllocError>
+) -> Result<Vec<Vec<u8>>, AllocError>
     requires some { 1 ≤ capacity }
     requires few { length values.now * capacity ≤ 2400 }
     requires key_of_this_seed { key.now ≡ key_of_seed seed.now }
-    ensures { IfOk result (λ cts. cts.items ≡ map (λ c. encrypted seed.now c (packed_list (powers_of (slice_index_or values.now (c / capacity) []) (c % capacity + 1)))) (range_with_len 0 (length values.now * capacity))) }
+    ensures { IfOk result (λ pieces. map (λ piece. piece.items) pieces.items ≡ map (λ c. ciphertext_bytes (encrypted seed.now c (packed_list (powers_of (slice_index_or values.now (c / capacity) []) (c % capacity + 1))))) (range_with_len 0 (length values.now * capacity))) }
 {
     (0..values.len() as u32 * capacity)
         .into_par_iter()
         .with_min_len(1)
         .map(
-            |c: u32| -> Result<Ciphertext, AllocError>
+            |c: u32| -> Result<Vec<u8>, AllocError>
                 requires { (c < length values.now * capacity) × (length values.now * capacity ≤ 2400) × (key.now ≡ key_of_seed seed.now) }
-                ensures { IfOk result (λ ct. ct ≡ encrypted seed.entry.now c (packed_list (powers_of (slice_index_or values.entry.now (c / capacity) []) (c % capacity + 1)))) }
+                ensures { IfOk result (λ bytes. bytes.items ≡ ciphertext_bytes (encrypted seed.entry.now c (packed_list (powers_of (slice_index_or values.entry.now (c / capacity) []) (c % capacity + 1))))) }
             {
                 let row = (c / capacity) as usize;
                 encrypt_power(alloc, key, seed, &values[row], c, c % capacity + 1)
             },
         )
-        .collect::<Result<Vec<Ciphertext>, AllocError>>(rt, alloc)?
+        .collect::<Result<Vec<Vec<u8>>, AllocError>>(rt, alloc)?
 }
 
-// Ciphertext number `c`, of these slot values' powers with an exponent.
+// The bytes of ciphertext number `c`, of these slot values' powers with an exponent.
 fn encrypt_power(
     alloc: Global,
     key: &SecretKey,
@@ -77,16 +79,16 @@ fn encrypt_power(
     values: &Slots,
     c: u32,
     exponent: u32,
-) -> Result<Ciphertext, AllocError>
+) -> Result<Vec<u8>, AllocError>
     requires key_of_this_seed { key.now ≡ key_of_seed seed.now }
     requires numbered { c < 2400 }
-    ensures { IfOk result (λ ct. ct ≡ encrypted seed.now c (packed_list (powers_of values.now exponent))) }
+    ensures { IfOk result (λ bytes. bytes.items ≡ ciphertext_bytes (encrypted seed.now c (packed_list (powers_of values.now exponent)))) }
 {
     let mut powers = [0; N];
     write_powers(values, exponent, &mut powers);
     let mut plain = [0; N];
     pack(&powers, &mut plain);
-    encrypt(alloc, key, seed, c, &plain)
+    write_ciphertext(alloc, &encrypt(alloc, key, seed, c, &plain)?)
 }
 
 // Writes the powers of slot values with an exponent, modulo the plaintext modulus.

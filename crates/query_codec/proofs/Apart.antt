@@ -43,4 +43,4 @@ counts-front p body rest le = counts_from body rest 0 p.rows (omega (arith, le))
 
 pub replies-apart : (p : Parameters) (body rest : List ℕ) → IsReply p body → IsReply p (body ++ rest) → rest ≡ []
 replies-apart p body rest one both =
-    rest_none body rest (reply_length p (reply_counts p body)) one.size (both.size ∙ ap (reply_length p) (counts-front p body rest one.head))
+    rest_none body rest (reply_length p (reply_counts p body)) one.head.size (both.head.size ∙ ap (reply_length p) (counts-front p body rest one.head.room))

@@ -1,5 +1,5 @@
 -- The body of a reply as a header, numbers of bundles and ciphertexts.
-use Rattle.std.proofs.Common.{◌≡◌, ℕ, ◌+◌, ◌-◌, ◌*◌, ◌<◌, ◌≤◌, List, [], ◌∷◌, ◌++◌, None, Some, not, true, nat_le, nat_eq, eq-eqb, if◌then◌else◌, length, take, drop, map, get_or, refl, ap, sym, subst, ◌∙◌, arith, append_assoc, length-append, length-drop}
+use Rattle.std.proofs.Common.{◌≡◌, ◌⊎◌, inl, inr, ℕ, ◌+◌, ◌-◌, ◌*◌, ◌<◌, ◌≤◌, List, [], ◌∷◌, ◌++◌, None, Some, not, true, nat_le, nat_eq, eq-eqb, if◌then◌else◌, suc, length, take, drop, map, get_or, refl, ap, sym, subst, ◌∙◌, arith, append_assoc, length-append, length-drop}
 use Rattle.std.specs.List.{All, flat_map, range_with_len, sum}
 use Rattle.std.specs.Option.{option_map}
 use Rattle.std.specs.Cmp.Lexicographic.{pointwise}
@@ -7,14 +7,17 @@ use Rattle.std.proofs.Math.Seq.{drop-append_seam}
 use Rattle.std.proofs.lemmas.Bool.{le-leb}
 use Rattle.std.proofs.lemmas.List.{drop-drop, take-append-drop}
 use Rattle.std.proofs.lemmas.List.Folds.{flat_map-map}
+use Rattle.std.proofs.lemmas.List.Sums.{sum_by-cons}
+use Rattle.std.proofs.lemmas.Nat.{mul-le}
 use Rattle.std.proofs.lemmas.List.FromFn.{fill_by_all, map-range_with_len_more, sum_by-map-range_with_len_more}
 use Rattle.byteorder.specs.Endian.{big_number, big_bytes}
 use Rattle.byteorder.specs.Numbers.{big_number-reads_back, length-bytes_high_first}
 use Rattle.psi_residue.specs.Parameters.{Parameters, parameter_bytes}
 use Rattle.psi_residue.specs.Ciphertexts.{IsCiphertext}
+use Rattle.query_codec.specs.declared.fault.CodecFault.{CodecFault}
 use Rattle.query_codec.specs.declared.fault.CodecFault.TheVariants as faults
 use Rattle.query_codec.specs.Ciphertexts.{AreCiphertexts, ciphertexts_in, ciphertexts_bytes, wrong_residue}
-use Rattle.query_codec.specs.Replies.{IsReply, row_count, reply_counts, planes_of, reply_head, reply_length, reply_ciphertexts, reply_fault, reply_bytes}
+use Rattle.query_codec.specs.Replies.{IsReply, IsReplyHead, row_count, reply_counts, planes_of, reply_head, reply_length, reply_ciphertexts, reply_fault, reply_bytes}
 use Rattle.item_slots.proofs.BigBytes.{bytes_from, written_again}
 use Rattle.query_codec.proofs.Pieces.{pieces, piece_at, length-pieces}
 use Rattle.query_codec.proofs.QueryBodies.{behind-same, same-pointwise}
@@ -52,26 +55,28 @@ reply_fault_of_residues p body within header size =
 
 pub no_fault-IsReply : (p : Parameters) (body : List ℕ) → IsReply p body → reply_fault p body ≡ None
 no_fault-IsReply p body r =
-    reply_fault_of_residues p body r.head r.header r.size
+    reply_fault_of_residues p body r.head.room r.head.header r.head.size
     ∙ ap (λ o. option_map faults.Residue o) (none_wrong (drop (reply_head p) body) (16384 * planes_of p (reply_counts p body)) r.fit)
 
 -- ---- what a body says
 
-pub IsReply-from : (p : Parameters) (body : List ℕ) → reply_head p ≤ length body → take 8 body ≡ parameter_bytes p → length body ≡ reply_length p (reply_counts p body)
-    → AreCiphertexts (drop (reply_head p) body) (planes_of p (reply_counts p body)) → IsReply p body
-IsReply-from p body head header size are = record { head = head; header = header; size = size; fit = are.fit }
+pub IsReply-from : (p : Parameters) (body : List ℕ) → IsReplyHead p body → AreCiphertexts (drop (reply_head p) body) (planes_of p (reply_counts p body)) → IsReply p body
+IsReply-from p body head are = record { head = head; fit = are.fit }
 
-pub AreCiphertexts-reply : (p : Parameters) (body : List ℕ) → IsReply p body → AreCiphertexts (drop (reply_head p) body) (planes_of p (reply_counts p body))
-AreCiphertexts-reply p body r = record {
-  size =
-      let n = planes_of p (reply_counts p body) in
-      let size : length body ≡ reply_head p + 81920 * n = r.size in
-      behind_length (length body) (reply_head p) (81920 * n) (length (drop (reply_head p) body)) size (length-drop (reply_head p) body);
-  fit = r.fit;
-}
+-- a fault of the head, but for want of memory, is no reply's
+pub no_reply : (p : Parameters) (body : List ℕ) (fault : CodecFault) → (fault ≡ faults.NoMemory) ⊎ (reply_fault p body ≡ Some fault) → (fault ≡ faults.NoMemory → ⊥) → IsReply p body → ⊥
+no_reply p body fault (inl none) other r = other none
+no_reply p body fault (inr some) other r = let none = no_fault-IsReply p body r in absurd cc
+
+-- the bytes behind the head are those of the ciphertexts
+pub length-behind : (p : Parameters) (body : List ℕ) → IsReplyHead p body → length (drop (reply_head p) body) ≡ 81920 * planes_of p (reply_counts p body)
+length-behind p body head = behind_length (length body) (reply_head p) (81920 * planes_of p (reply_counts p body)) (length (drop (reply_head p) body)) head.size (length-drop (reply_head p) body)
   where
     behind_length : (all head rest behind : ℕ) → all ≡ head + rest → behind ≡ all - head → behind ≡ rest
     behind_length all head rest behind e f = omega (arith, e, f)
+
+pub AreCiphertexts-reply : (p : Parameters) (body : List ℕ) → IsReply p body → AreCiphertexts (drop (reply_head p) body) (planes_of p (reply_counts p body))
+AreCiphertexts-reply p body r = record { size = length-behind p body r.head; fit = r.fit }
 
 pub reply_ciphertexts-is : (p : Parameters) (body : List ℕ) (head planes : ℕ) → head ≡ reply_head p → planes ≡ planes_of p (reply_counts p body) → ciphertexts_in (take (length body - head) (drop head body)) planes ≡ reply_ciphertexts p body
 unfolding reply_ciphertexts
@@ -91,12 +96,12 @@ spelled_counts body rows within each =
 pub spelled_reply : (p : Parameters) (body counts : List ℕ) (cts : List (List (List ℕ))) → IsReply p body → ((i : ℕ) → get_or body i 0 < 256) → counts ≡ reply_counts p body → cts ≡ reply_ciphertexts p body → reply_bytes p counts cts ≡ body
 unfolding reply_bytes reply_counts reply_ciphertexts
 spelled_reply p body counts cts r each counts-are cts-are =
-    let numbers : flat_map (big_bytes 2) counts ≡ take (2 * p.rows) (drop 8 body) = ap (flat_map (big_bytes 2)) counts-are ∙ spelled_counts body p.rows r.head each in
+    let numbers : flat_map (big_bytes 2) counts ≡ take (2 * p.rows) (drop 8 body) = ap (flat_map (big_bytes 2)) counts-are ∙ spelled_counts body p.rows r.head.room each in
     let text : ciphertexts_bytes cts ≡ drop (2 * p.rows) (drop 8 body) =
     ap ciphertexts_bytes cts-are
     ∙ spelled_ciphertexts (drop (reply_head p) body) (planes_of p (reply_counts p body)) (AreCiphertexts-reply p body r) (bytes_from (reply_head p) body each)
     ∙ sym (drop-drop (2 * p.rows) 8 body) in
-    (λ i. sym r.header i ++ numbers i ++ text i)
+    (λ i. sym r.head.header i ++ numbers i ++ text i)
     ∙ append_assoc (take 8 body) (take (2 * p.rows) (drop 8 body)) (drop (2 * p.rows) (drop 8 body))
     ∙ ap (λ (ys : List ℕ). take 8 body ++ ys) (take-append-drop (2 * p.rows) (drop 8 body))
     ∙ take-append-drop 8 body
@@ -149,9 +154,11 @@ IsReply-written p counts cts rows small planes each =
     let are : AreCiphertexts (drop (reply_head p) body) (planes_of p (reply_counts p body)) =
     subst (λ (n : ℕ). AreCiphertexts (drop (reply_head p) body) n) number (subst (λ (ys : List ℕ). AreCiphertexts ys (length cts)) (sym (behind_written p counts cts rows)) (AreCiphertexts-written cts each)) in
     record {
-      head = subst (λ (n : ℕ). reply_head p ≤ n) (sym long) (omega arith);
-      header = header-reply p counts cts;
-      size = long ∙ ap (λ (n : ℕ). reply_head p + 81920 * n) number;
+      head = record {
+        room = subst (λ (n : ℕ). reply_head p ≤ n) (sym long) (omega arith);
+        header = header-reply p counts cts;
+        size = long ∙ ap (λ (n : ℕ). reply_head p + 81920 * n) number;
+      };
       fit = are.fit;
     }
 
@@ -165,3 +172,20 @@ reply_read_back p counts cts rows small planes each =
 pub reply_bytes-is : (p : Parameters) (counts : List ℕ) (cts : List (List (List ℕ))) → (parameter_bytes p ++ flat_map (big_bytes 2) counts) ++ ciphertexts_bytes cts ≡ reply_bytes p counts cts
 unfolding reply_bytes
 reply_bytes-is p counts cts = refl
+
+-- ---- how many
+
+-- each number is below 2^16
+pub few_bundles : (counts : List ℕ) → ((i : ℕ) → get_or counts i 0 < 65536) → sum counts ≤ 65535 * length counts
+few_bundles [] small = omega arith
+few_bundles (n ∷ counts) small =
+    let here = small 0 in
+    let later = few_bundles counts (λ i. small (suc i)) in
+    omega (arith, sum_by-cons (λ x. x) n counts, here, later)
+
+pub few_planes : (p : Parameters) (counts : List ℕ) → p.units ≤ 4 → p.rows ≤ 4 → length counts ≡ p.rows → ((i : ℕ) → get_or counts i 0 < 65536) → planes_of p counts ≤ 1310700
+few_planes p counts units rows number small =
+    let bundles = few_bundles counts small in
+    let most : sum counts ≤ 262140 = omega (arith, bundles, rows, number) in
+    let planes : (1 + p.units) * sum counts ≤ 5 * 262140 = mul-le (1 + p.units) (sum counts) 5 262140 (omega (arith, units)) most in
+    planes

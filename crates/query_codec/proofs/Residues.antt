@@ -9,7 +9,7 @@ use Rattle.psi_residue.proofs.Sums.{length-table, slice_index-table, same_as_tab
 use Rattle.psi_residue.specs.Ciphertexts.{list_modulus}
 use Rattle.query_codec.specs.declared.fault.CodecFault.{CodecFault}
 use Rattle.query_codec.specs.declared.fault.CodecFault.TheVariants as faults
-use Rattle.query_codec.specs.Ciphertexts.{AreBelow, IsFirstWrong, residue_in, modulus_at, list_in, ciphertext_in, ciphertexts_in, wrong_residue}
+use Rattle.query_codec.specs.Ciphertexts.{AreBelow, IsFirstWrong, IsResidueFault, residue_in, modulus_at, list_in, ciphertext_in, ciphertexts_in, wrong_residue}
 use Rattle.query_codec.proofs.Finding.{find-none, find-first}
 
 -- the first residue that is not below its modulus
@@ -49,7 +49,7 @@ IsFirstWrong-later bytes a b c d i low high front h = record {
 
 -- the fault of one ciphertext is that of all, where those before it have none
 pub fault_within : (bytes : List ℕ) (n c : ℕ) (fault : CodecFault) → c < n → AreBelow bytes 0 (16384 * c)
-    → (fault ≡ faults.NoMemory) ⊎ ((i : ℕ) × (fault ≡ faults.Residue i) × IsFirstWrong bytes (16384 * c) (16384 * (c + 1)) i)
+    → (fault ≡ faults.NoMemory) ⊎ IsResidueFault bytes (16384 * c) (16384 * (c + 1)) fault
     → (fault ≡ faults.NoMemory) ⊎ (option_map faults.Residue (wrong_residue bytes (16384 * n)) ≡ Some fault)
 fault_within bytes n c fault lt front (inl none) = inl none
 fault_within bytes n c fault lt front (inr h) =

@@ -6,6 +6,8 @@ use Rattle.byteorder.specs.Endian.{big_number, big_bytes}
 use Rattle.psi_residue.specs.Numbers.{ring_degree}
 use Rattle.psi_residue.specs.Sums.{table}
 use Rattle.psi_residue.specs.Ciphertexts.{list_modulus}
+use Rattle.query_codec.specs.declared.fault.CodecFault.{CodecFault}
+use Rattle.query_codec.specs.declared.fault.CodecFault.TheVariants as faults
 
 -- the bytes of a ciphertext
 abbrev pub ciphertext_size : ℕ
@@ -45,6 +47,10 @@ pub record IsFirstWrong (bytes : List ℕ) (a b i : ℕ) : Type 0 where
   pub within : i < b
   pub before : AreBelow bytes a i
   pub wrong : modulus_at i ≤ residue_in bytes i
+
+-- the fault of residues a to b - 1: the first that is not below its modulus
+abbrev pub IsResidueFault : List ℕ → (a b : ℕ) → CodecFault → Type 0
+IsResidueFault bytes a b fault = (i : ℕ) × (fault ≡ faults.Residue i) × IsFirstWrong bytes a b i
 
 -- the bytes are n ciphertexts
 pub record AreCiphertexts (bytes : List ℕ) (n : ℕ) : Type 0 where

@@ -12,7 +12,7 @@ use Rattle.psi_bundle.specs.Versions.{Row}
 use Rattle.psi_bundle.specs.Bodies.{bundle_counts, evaluated_rows}
 use Rattle.query_codec.specs.declared.fault.CodecFault.{CodecFault}
 use Rattle.query_codec.specs.declared.fault.CodecFault.TheVariants as faults
-use Rattle.query_codec.specs.Ciphertexts.{ciphertext_size, ciphertexts_in, ciphertexts_bytes, modulus_at, residue_in, wrong_residue}
+use Rattle.query_codec.specs.Ciphertexts.{ciphertext_in, ciphertext_size, ciphertexts_in, ciphertexts_bytes, modulus_at, residue_in, wrong_residue}
 
 -- the number of bundles of row r
 unfoldable pub row_count : List ℕ → ℕ → ℕ
@@ -38,11 +38,19 @@ reply_length p counts = reply_head p + ciphertext_size * planes_of p counts
 unfoldable pub reply_ciphertexts : Parameters → List ℕ → List (List (List ℕ))
 reply_ciphertexts p body = ciphertexts_in (drop (reply_head p) body) (planes_of p (reply_counts p body))
 
--- a body is a reply under the parameters: the parameters' bytes, a number for each row, as many ciphertexts, and each residue is below its modulus
-pub record IsReply (p : Parameters) (body : List ℕ) : Type 0 where
-  pub head : reply_head p ≤ length body
+-- a body has a reply's head: the parameters' bytes, a number for each row, and the bytes of as many ciphertexts behind them
+pub record IsReplyHead (p : Parameters) (body : List ℕ) : Type 0 where
+  pub room : reply_head p ≤ length body
   pub header : take 8 body ≡ parameter_bytes p
   pub size : length body ≡ reply_length p (reply_counts p body)
+
+-- ciphertext number c of a reply body
+abbrev pub reply_ciphertext : Parameters → List ℕ → ℕ → List (List ℕ)
+reply_ciphertext p body c = ciphertext_in (drop (reply_head p) body) c
+
+-- a body is a reply under the parameters: its head, and each residue is below its modulus
+pub record IsReply (p : Parameters) (body : List ℕ) : Type 0 where
+  pub head : IsReplyHead p body
   pub fit : (i : ℕ) → i < 4 * ring_degree * planes_of p (reply_counts p body) → residue_in (drop (reply_head p) body) i < modulus_at i
 
 -- the first fault of a reply body: too short for the numbers, then its parameters, then its length, then its residues

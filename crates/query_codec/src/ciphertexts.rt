@@ -1,12 +1,12 @@
 //! Ciphertexts as bytes: four lists of 4096 residues of 5 bytes each.
 ghost use Rattle.std.specs.Prelude.{◌≡◌, ℕ, ◌≤◌, ◌+◌, ◌*◌, ◌++◌, ◌⊎◌, Some, IfOk, OnOk, IfErr, length};
 ghost use Rattle.psi_residue.specs.Numbers.{ring_degree};
-ghost use Rattle.psi_residue.specs.Ciphertexts.{IsCiphertext};
+ghost use Rattle.psi_residue.specs.Ciphertexts.{IsCiphertext, list_modulus};
 ghost use Rattle.std.specs.List.{All};
 ghost use Rattle.std.specs.Option.{option_map};
 ghost use Rattle.byteorder.specs.Endian.{big_bytes};
 ghost use Rattle.query_codec.specs.declared.fault.CodecFault.TheVariants.{NoMemory, Residue};
-ghost use Rattle.query_codec.specs.Ciphertexts.{AreBelow, AreCiphertexts, IsFirstWrong, ciphertext_bytes, ciphertexts_bytes, ciphertext_in, ciphertext_size, ciphertexts_in, list_in, modulus_at, residue_bytes, residue_in, wrong_residue};
+ghost use Rattle.query_codec.specs.Ciphertexts.{AreBelow, AreCiphertexts, IsResidueFault, ciphertext_bytes, ciphertexts_bytes, ciphertext_in, ciphertext_size, ciphertexts_in, list_in, residue_bytes, residue_in, wrong_residue};
 
 use crate::fault::CodecFault;
 use bfv_core::Ciphertext;
@@ -39,12 +39,13 @@ pub fn read_ciphertexts(
     Ok(cts)
 }
 
-// Ciphertext number `c` of the bytes.
-fn read_ciphertext(alloc: Global, bytes: &[u8], c: usize) -> Result<Ciphertext, CodecFault>
+/// Ciphertext number `c` of the bytes. It fails, but for want of memory, exactly where one of its residues is not below its
+/// modulus, with the first such residue, counted over all ciphertexts.
+pub fn read_ciphertext(alloc: Global, bytes: &[u8], c: usize) -> Result<Ciphertext, CodecFault>
     requires { ciphertext_size * (c + 1) ≤ length bytes.now }
     ensures read { IfOk result (λ ct. ct ≡ ciphertext_in bytes.now c) }
     ensures below { OnOk result (AreBelow bytes.now (4 * ring_degree * c) (4 * ring_degree * (c + 1))) }
-    ensures fault { IfErr result (λ fault. (fault ≡ NoMemory) ⊎ ((i : ℕ) × (fault ≡ Residue i) × IsFirstWrong bytes.now (4 * ring_degree * c) (4 * ring_degree * (c + 1)) i)) }
+    ensures fault { IfErr result (λ fault. (fault ≡ NoMemory) ⊎ IsResidueFault bytes.now (4 * ring_degree * c) (4 * ring_degree * (c + 1)) fault) }
 {
     let mut ct = Ciphertext::zero(alloc)?;
     let mut residues = [0; N];
@@ -61,12 +62,13 @@ fn read_list(bytes: &[u8], k: usize, out: &mut [u64]) -> Result<(), CodecFault>
     requires within { 5 * (ring_degree * (k + 1)) ≤ length bytes.now }
     ensures read { OnOk result (out.new ≡ list_in bytes.now k) }
     ensures below { OnOk result (AreBelow bytes.now (ring_degree * k) (ring_degree * (k + 1))) }
-    ensures fault { IfErr result (λ fault. (i : ℕ) × (fault ≡ Residue i) × IsFirstWrong bytes.now (ring_degree * k) (ring_degree * (k + 1)) i) }
+    ensures fault { IfErr result (IsResidueFault bytes.now (ring_degree * k) (ring_degree * (k + 1))) }
 {
+    let modulus = modulus_of(k);
     for (i, place) in out.iter_mut().enumerate() {
         let index = N * k + i;
         let residue = residue(bytes, index);
-        if residue >= modulus_at(index) {
+        if residue >= modulus {
             return Err(CodecFault::Residue {
                 index: index as u64,
             });
@@ -88,11 +90,11 @@ fn residue(bytes: &[u8], i: usize) -> u64
     high * 256 + low
 }
 
-// The modulus of residue number `i`: the lists go by the two moduli in turn.
-fn modulus_at(i: usize) -> u64
-    ensures { result ≡ modulus_at i }
+// The modulus of list number `k`: the lists go by the two moduli in turn.
+fn modulus_of(k: usize) -> u64
+    ensures { result ≡ list_modulus k }
 {
-    if i / N % 2 == 0 { Q1 } else { Q2 }
+    if k % 2 == 0 { Q1 } else { Q2 }
 }
 
 /// Appends the bytes of ciphertexts.
@@ -104,6 +106,16 @@ pub fn append_ciphertexts(text: &mut Vec<u8>, cts: &[Ciphertext]) -> Result<(), 
         append_ciphertext(text, ct)?;
     }
     Ok(())
+}
+
+/// The bytes of a ciphertext: its four lists, five bytes a residue. It fails only for want of memory.
+pub fn write_ciphertext(alloc: Global, ct: &Ciphertext) -> Result<Vec<u8>, AllocError>
+    ensures written { IfOk result (λ bytes. bytes.items ≡ ciphertext_bytes ct.now) }
+    ensures whole { OnOk result (IsCiphertext ct.now) }
+{
+    let mut text = Vec::with_capacity(alloc, CIPHERTEXT_BYTES)?;
+    append_ciphertext(&mut text, ct)?;
+    Ok(text)
 }
 
 // Appends the bytes of a ciphertext.

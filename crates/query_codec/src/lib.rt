@@ -11,11 +11,12 @@ mod query;
 mod reply;
 
 pub use bfv_core::Ciphertext;
+pub use ciphertexts::write_ciphertext;
 pub use fault::CodecFault;
 pub use laws::no_body_begins_another;
 pub use lists::{Ciphertexts, Counts};
-pub use query::{read_query, write_query};
-pub use reply::{ReplyBody, read_reply, write_reply};
+pub use query::{join_query, read_query, write_query};
+pub use reply::{ReplyBody, read_reply, read_reply_ciphertext, read_reply_head, write_reply};
 
 #[cfg(test)]
 mod tests;

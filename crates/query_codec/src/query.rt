@@ -1,5 +1,6 @@
 //! The bodies of queries.
-ghost use Rattle.std.specs.Prelude.{◌≡◌, ◌≤◌, ◌*◌, ◌⊎◌, None, Some, length, take, IfOk, OnOk, IfErr};
+ghost use Rattle.std.specs.Prelude.{◌≡◌, ◌≤◌, ◌*◌, ◌++◌, ◌⊎◌, None, Some, length, take, IfOk, OnOk, IfErr};
+ghost use Rattle.std.specs.List.{flat_map};
 ghost use Rattle.psi_residue.specs.Parameters.{parameter_bytes};
 ghost use Rattle.noise_ledger.specs.Verdicts.{parameters_of, ArePassed};
 ghost use Rattle.query_codec.specs.declared.fault.CodecFault.TheVariants.{NoMemory};
@@ -52,6 +53,20 @@ pub fn write_query(
     let mut body = Vec::with_capacity(alloc, HEADER + CIPHERTEXT_BYTES * query.len())?;
     body.extend_from_slice(&params.to_bytes())?;
     append_ciphertexts(&mut body, query)?;
+    Ok(body)
+}
+
+/// The body of a query from the bytes of its ciphertexts, which may be several pieces: the 8 bytes of the parameters, then
+/// the pieces one after another. The parameters are passed ones. It fails only for want of memory.
+pub fn join_query(alloc: Global, params: &Params, pieces: &[Vec<u8>]) -> Result<Vec<u8>, AllocError>
+    requires { ArePassed (parameters_of params.now) }
+    ensures { IfOk result (λ body. body.items ≡ parameter_bytes (parameters_of params.now) ++ flat_map (λ piece. piece.items) pieces.now) }
+{
+    let mut body = Vec::with_capacity(alloc, HEADER + CIPHERTEXT_BYTES * ciphertexts(params))?;
+    body.extend_from_slice(&params.to_bytes())?;
+    for piece in pieces {
+        body.extend_from_slice(piece)?;
+    }
     Ok(body)
 }
 

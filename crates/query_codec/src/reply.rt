@@ -1,13 +1,15 @@
 //! The bodies of replies.
-ghost use Rattle.std.specs.Prelude.{◌≡◌, ◌≤◌, ◌+◌, ◌*◌, ◌++◌, ◌⊎◌, Some, length, map, take, IfOk, OnOk, IfErr};
+ghost use Rattle.std.specs.Prelude.{◌≡◌, ◌≤◌, ◌<◌, ◌+◌, ◌*◌, ◌++◌, ◌⊎◌, Some, length, map, drop, take, IfOk, OnOk, IfErr};
 ghost use Rattle.std.specs.List.{flat_map, range_with_len, sum};
 ghost use Rattle.byteorder.specs.Endian.{big_bytes};
+ghost use Rattle.psi_residue.specs.Numbers.{ring_degree};
 ghost use Rattle.psi_residue.specs.Parameters.{parameter_bytes};
 ghost use Rattle.noise_ledger.specs.Verdicts.{parameters_of, ArePassed};
 ghost use Rattle.query_codec.specs.declared.fault.CodecFault.TheVariants.{NoMemory};
-ghost use Rattle.query_codec.specs.Replies.{IsReply, planes_of, reply_bytes, reply_ciphertexts, reply_counts, reply_fault, reply_head, reply_length, row_count};
+ghost use Rattle.query_codec.specs.Ciphertexts.{AreBelow, IsResidueFault};
+ghost use Rattle.query_codec.specs.Replies.{IsReply, IsReplyHead, planes_of, reply_bytes, reply_ciphertext, reply_ciphertexts, reply_counts, reply_fault, reply_head, reply_length, row_count};
 
-use crate::ciphertexts::{CIPHERTEXT_BYTES, append_ciphertexts, read_ciphertexts};
+use crate::ciphertexts::{CIPHERTEXT_BYTES, append_ciphertexts, read_ciphertext, read_ciphertexts};
 use crate::fault::CodecFault;
 use crate::header::{HEADER, has_header};
 use crate::lists::{Ciphertexts, Counts};
@@ -41,13 +43,46 @@ pub fn read_reply(alloc: Global, params: &Params, body: &[u8]) -> Result<ReplyBo
     ensures fault { IfErr result (λ fault. (fault ≡ NoMemory) ⊎ (reply_fault (parameters_of params.now) body.now ≡ Some fault)) }
     ensures refused { IfErr result (λ fault. (fault ≡ NoMemory → ⊥) → IsReply (parameters_of params.now) body.now → ⊥) }
 {
+    let counts = read_reply_head(alloc, params, body)?;
+    let cts = read_ciphertexts(alloc, &body[head(params)..], planes(params, body))?;
+    let cts = Ciphertexts::of(cts);
+    Ok(ReplyBody { counts, cts })
+}
+
+/// The numbers of bundles of a reply body, whose ciphertexts are not read. The parameters are passed ones.
+///
+/// It fails as [`read_reply`] does, but for `Residue`: where it does not fail, the body is a reply as soon as each of its
+/// ciphertexts is read by [`read_reply_ciphertext`].
+pub fn read_reply_head(alloc: Global, params: &Params, body: &[u8]) -> Result<Counts, CodecFault>
+    requires { ArePassed (parameters_of params.now) }
+    ensures counts { IfOk result (λ counts. counts ≡ reply_counts (parameters_of params.now) body.now) }
+    ensures head { OnOk result (IsReplyHead (parameters_of params.now) body.now) }
+    ensures fault { IfErr result (λ fault. (fault ≡ NoMemory) ⊎ (reply_fault (parameters_of params.now) body.now ≡ Some fault)) }
+{
     test_head(params, body)?;
     let counts = read_counts(alloc, body, params.rows as usize)?;
-    let cts = read_ciphertexts(alloc, &body[head(params)..], planes(params, body))?;
-    Ok(ReplyBody {
-        counts: Counts::of(counts),
-        cts: Ciphertexts::of(cts),
-    })
+    Ok(Counts::of(counts))
+}
+
+/// Ciphertext number `c` of a reply body, so that threads can read its ciphertexts. The parameters are passed ones, the
+/// body has a reply's head, as [`read_reply_head`] finds it, and more than `c` ciphertexts.
+///
+/// It fails, but for want of memory, exactly where one of this ciphertext's residues is not below its modulus, with
+/// the number of the first such residue, counted over the ciphertexts of the body.
+pub fn read_reply_ciphertext(
+    alloc: Global,
+    params: &Params,
+    body: &[u8],
+    c: usize,
+) -> Result<Ciphertext, CodecFault>
+    requires passed { ArePassed (parameters_of params.now) }
+    requires head { IsReplyHead (parameters_of params.now) body.now }
+    requires within { c < planes_of (parameters_of params.now) (reply_counts (parameters_of params.now) body.now) }
+    ensures read { IfOk result (λ ct. ct ≡ reply_ciphertext (parameters_of params.now) body.now c) }
+    ensures below { OnOk result (AreBelow (drop (reply_head (parameters_of params.now)) body.now) (4 * ring_degree * c) (4 * ring_degree * (c + 1))) }
+    ensures fault { IfErr result (λ fault. (fault ≡ NoMemory) ⊎ IsResidueFault (drop (reply_head (parameters_of params.now)) body.now) (4 * ring_degree * c) (4 * ring_degree * (c + 1)) fault) }
+{
+    read_ciphertext(alloc, &body[head(params)..], c)
 }
 
 /// The body of a reply with these numbers of bundles, one for each row, and these ciphertexts, one for each plane of
@@ -66,7 +101,8 @@ pub fn write_reply(
     ensures counts_back { IfOk result (λ body. reply_counts (parameters_of params.now) body.items ≡ counts.now) }
     ensures read_back { IfOk result (λ body. reply_ciphertexts (parameters_of params.now) body.items ≡ cts.now) }
 {
-    let mut body = Vec::new(alloc);
+    let size = HEADER + 2 * counts.len() + CIPHERTEXT_BYTES * cts.len();
+    let mut body = Vec::with_capacity(alloc, size)?;
     body.extend_from_slice(&params.to_bytes())?;
     append_counts(&mut body, counts)?;
     append_ciphertexts(&mut body, cts)?;

@@ -80,5 +80,5 @@ body-of p rows query cts counts numbers evaluated = λ i. reply_bytes p (numbers
 -- it has 16 bytes at most, and 81920 for each plane
 pub body-short : (p : Parameters) (body counts : List ℕ) → p.rows ≤ 4 → planes_of p counts ≤ 64 → IsReply p body → reply_counts p body ≡ counts → length body ≤ longest_body
 body-short p body counts rows few whole back =
-    let size : length body ≡ reply_length p counts = whole.size ∙ ap (reply_length p) back in
+    let size : length body ≡ reply_length p counts = whole.head.size ∙ ap (reply_length p) back in
     omega (arith, size, few, rows)

@@ -1,9 +1,8 @@
-use Rattle.std.proofs.Common.{◌≡◌, ◌+◌, ◌/◌, ◌%◌, ◌++◌, ◌∷◌, [], ℕ, List, ◌-◌, length, drop, get_or, take, ap, sym, ◌∙◌, arith, append_assoc}
+use Rattle.std.proofs.Common.{◌≡◌, ◌+◌, ◌/◌, ◌%◌, ◌++◌, ◌∷◌, [], ℕ, List, ◌-◌, length, drop, get_or, take, ap, sym, ◌∙◌, arith}
 use Rattle.std.specs.List.{sum}
-use Rattle.std.proofs.lemmas.List.{append-nil, get_or_default}
+use Rattle.std.proofs.lemmas.List.{get_or_default}
 use Rattle.noise_ledger.specs.Verdicts.{parameters_of}
 use Rattle.query_codec.proofs.QueryBodies.{all_behind}
-use Rattle.psi_receiver.specs.declared.found.Found.{Found}
 use Rattle.psi_receiver.specs.Openings.{Reply, opened_at, opens_in, opened_label}
 use Rattle.psi_receiver.proofs.Opened.{bundle-last, planes-within, opens-told, label-told}
 use Rattle.psi_receiver.proofs.Steps.{opened_below, opened_below-none, opened_below-yes, opened_below-no, opened_below-all}
@@ -12,9 +11,8 @@ use Rattle.psi_receiver.proofs.opening.open_item.Goals.{then-opens+in_ok-label+i
 
 pub loop-bundle-init : goal.loop-bundle-init
 loop-bundle-init c =
-    sym (append-nil c.args.found.now.items)
-    ∙ ap (λ (xs : List Found). c.args.found.now.items ++ xs)
-    (sym (opened_below-none (record { parameters = parameters_of c.args.params.now; counts = c.args.counts.now; planes = c.args.planes.now }) c.args.x.now))
+    c.new-found.ensures.items
+    ∙ sym (opened_below-none (record { parameters = parameters_of c.args.params.now; counts = c.args.counts.now; planes = c.args.planes.now }) c.args.x.now)
 
 pub planes_of_bundle-own-requires : goal.planes_of_bundle-own-requires
 planes_of_bundle-own-requires c =
@@ -44,12 +42,11 @@ loop-bundle-preserved c =
           ap (λ v. v.items) w.found-is
           ∙ w.in_ok-push.ensures.items
           ∙ (λ i. c.loop-bundle.invariant i ++ record { item = c.args.x.now.item; bundle = c.loop-bundle.bundle; label = label_is i } ∷ [])
-          ∙ append_assoc c.args.found.now.items (opened_below reply c.args.x.now c.loop-bundle.bundle) (opened_at reply c.args.x.now c.loop-bundle.bundle ∷ [])
-          ∙ ap (λ (xs : List Found). c.args.found.now.items ++ xs) (sym (opened_below-yes reply c.args.x.now c.loop-bundle.bundle (told ∙ w.if-opens.true)))
+          ∙ sym (opened_below-yes reply c.args.x.now c.loop-bundle.bundle (told ∙ w.if-opens.true))
       | else-opens w ↦
           ap (λ v. v.items) w.found-is
           ∙ c.loop-bundle.invariant
-          ∙ ap (λ (xs : List Found). c.args.found.now.items ++ xs) (sym (opened_below-no reply c.args.x.now c.loop-bundle.bundle (told ∙ w.if-opens.false)))
+          ∙ sym (opened_below-no reply c.args.x.now c.loop-bundle.bundle (told ∙ w.if-opens.false))
     ]
 
 pub returns : goal.returns
@@ -58,5 +55,5 @@ returns c =
     let count : get_or c.args.counts.now (c.from-row.result / 819) 0 ≡ get_or c.args.counts.now (c.args.x.now.position / 819) 0 = ap (λ (q : ℕ). get_or c.args.counts.now (q / 819) 0) c.from-row.ensures in
     let all : c.loop-bundle.bundle ≡ get_or c.args.counts.now (c.args.x.now.position / 819) 0 = omega (arith, count) in
     c.loop-bundle.invariant
-    ∙ ap (λ (n : ℕ). c.args.found.now.items ++ opened_below reply c.args.x.now n) all
-    ∙ ap (λ (xs : List Found). c.args.found.now.items ++ xs) (opened_below-all reply c.args.x.now)
+    ∙ ap (λ (n : ℕ). opened_below reply c.args.x.now n) all
+    ∙ opened_below-all reply c.args.x.now

@@ -1,16 +1,21 @@
-use Rattle.std.proofs.Common.{◌++◌, sym, ◌∙◌}
+use Rattle.std.proofs.Common.{◌≡◌, List, Result, Ok, map, ap, subst, ◌∙◌}
+use Rattle.std.specs.List.{flat_map}
+use Rattle.std.specs.Result.{IfOk, MatchResult}
+use Rattle.std.proofs.lemmas.Result.{IfOk-weaker}
+use Rattle.rayon.proofs.ToStd.{slice-AllZip}
 use Rattle.noise_ledger.specs.Verdicts.{parameters_of}
 use Rattle.psi_receiver.specs.Openings.{Reply, opened, opened_item}
-use Rattle.psi_receiver.proofs.Steps.{opened-more}
+use Rattle.psi_receiver.proofs.Planes.{lists-joined}
+use Rattle.psi_receiver.proofs.Writes.{all-shown}
 use Rattle.psi_receiver.proofs.opening.open_placed.Goals as goal
 
-pub loop-x-init : goal.loop-x-init
-unfolding opened
-loop-x-init c = c.new-found.ensures.items
-
-pub loop-x-preserved : goal.loop-x-preserved
-loop-x-preserved c =
+pub returns : goal.returns
+returns g c =
     let reply : Reply = record { parameters = parameters_of c.args.params.now; counts = c.args.counts.now; planes = c.args.planes.now } in
-    c.in_ok-open_item.ensures
-    ∙ (λ i. c.loop-x.invariant i ++ opened_item reply c.x-item.result)
-    ∙ sym (opened-more reply c.args.placed.now c.loop-x.x-index c.x-item.result c.loop-x-test.true c.x-item.is)
+    let placed = c.args.placed.now in
+    let done = c.in_ok-collect.ensures in
+    let chain = rw (c.map.ensures.base, c.map.ensures.f, c.with_min_len.ensures.base) at done.1 in
+    let made = rw c.in_ok-lists.was at done.2 in
+    let each = slice-AllZip chain.0 placed (chain.1 ∙ c.par_iter.ensures) (λ x r. IfOk r (λ found. found.items ≡ opened_item reply x)) done.0 chain.2 in
+    let lists = (λ i. map (λ list. list.items) (made.2 i)) ∙ all-shown (opened_item reply) (λ list. list.items) placed done.0 made.0 each made.1 in
+    IfOk-weaker c.join.result _ _ (λ found e. e ∙ lists-joined (λ list. list.items) reply placed c.in_ok-lists.lists.items lists) c.join.ensures

@@ -3,7 +3,7 @@ use Rattle.std.proofs.lemmas.List.FromFn.{length-map-range_with_len}
 use Rattle.std.proofs.lemmas.Result.{IfOk-weaker}
 use Rattle.noise_ledger.specs.Verdicts.{parameters_of}
 use Rattle.psi_receiver.specs.Queries.{row_values}
-use Rattle.psi_receiver.proofs.Writes.{ciphertexts-made}
+use Rattle.psi_receiver.proofs.Writes.{bytes-made}
 use Rattle.psi_receiver.proofs.query.encrypt_query.Goals as goal
 
 pub encrypt_powers-requires-clause-few : goal.encrypt_powers-requires-clause-few
@@ -17,8 +17,7 @@ returns g c =
     let p = parameters_of c.args.params.now in
     let are = c.deref.ensures.value ∙ c.in_ok-values.ensures in
     let size : length c.deref.result.now ≡ p.rows = ap length are ∙ length-map-range_with_len (row_values c.args.placed.now) 0 p.rows in
-    record {
-      query = IfOk-weaker c.encrypt_powers.result _ _
-          (λ cts e. e ∙ ciphertexts-made p c.args.seed.now c.args.placed.now c.deref.result.now c.from.result (length c.deref.result.now * c.from.result) c.requires.ranges.some_members c.from.ensures are (λ i. size i * c.from.ensures i))
-          c.encrypt_powers.ensures;
-    }
+    IfOk-weaker c.encrypt_powers.result _ _
+    (λ pieces e.
+    bytes-made (λ piece. piece.items) p c.args.seed.now c.args.placed.now c.deref.result.now c.from.result (length c.deref.result.now * c.from.result) pieces.items c.requires.ranges.some_members c.from.ensures are (λ i. size i * c.from.ensures i) e)
+    c.encrypt_powers.ensures
