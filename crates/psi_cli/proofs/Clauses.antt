@@ -618,11 +618,11 @@ rounds_never p alone old new n (inl so) e = never_eight so.leaves.statuses (so.s
   never_eight (inr (inr (inr (inl a)))) b = omega (arith, a, b)
   never_eight (inr (inr (inr (inr a)))) b = omega (arith, a, b)
 
-opens_crowded : (p : Parameters) (seed name text : List ℕ) (left : Option (List ℕ)) (files : Option FileMap) → IfSome left (λ bytes. IfSome files (λ known. OpensFile p seed (items_of bytes) known name status.Crowded text))
-    → IfSome left (λ bytes. IfSome files (λ known. AreCrowded p.rows (items_of bytes) text))
-opens_crowded p seed name text None files h = tt
-opens_crowded p seed name text (Some bytes) None h = tt
-opens_crowded p seed name text (Some bytes) (Some known) h = h.makes
+opens_crowded : (p : Parameters) (seed name text : List ℕ) (left : Option (List ℕ)) (files : Option FileMap) (P : List ℕ → Type 0) → OpensText p seed name left files status.Crowded text → P text
+    → IfSome left (λ bytes. (t : List ℕ) × AreCrowded p.rows (items_of bytes) t × P t × IfSome files (λ known. (body : List ℕ) × HasAnswer known name body))
+opens_crowded p seed name text None files P h wrote = tt
+opens_crowded p seed name text (Some bytes) None P h wrote = (text, h.crowded refl, wrote, tt)
+opens_crowded p seed name text (Some bytes) (Some known) P h wrote = let file = h.makes in (text, h.crowded refl, wrote, (file.body, file.file))
 
 pub crowded : (r : Judged) (old new : World) (n : ℕ) → Runs r old new n → n ≡ 8 → IfCrowded r old.given.left old.given.files (Appends old.held.written new.held.written)
 crowded (Ok (command.Ask rows capacity units dropped counted seed session number)) old new n runs e =
@@ -630,8 +630,7 @@ crowded (Ok (command.Ask rows capacity units dropped counted seed session number
     with_text old.given.left (λ bytes text. AreCrowded rows (items_of bytes) text) (Appends old.held.written new.held.written) w.text w.makes.1.makes w.written.appended
 crowded (Ok (command.Open rows capacity units dropped counted seed name)) old new n runs e =
     let w = wrote (command.Open rows capacity units dropped counted seed name) old new n runs status.Crowded (inr refl) e in
-    with_texts old.given.left old.given.files (λ bytes known text. AreCrowded rows (items_of bytes) text) (Appends old.held.written new.held.written) w.text
-    (opens_crowded (word_parameters rows capacity units dropped counted) seed name w.text old.given.left old.given.files w.makes.1.makes) w.written.appended
+    opens_crowded (word_parameters rows capacity units dropped counted) seed name w.text old.given.left old.given.files (Appends old.held.written new.held.written) w.makes.1 w.written.appended
 crowded (Ok (command.Params rows capacity units dropped counted)) old new n runs e = absurd (wrote (command.Params rows capacity units dropped counted) old new n runs status.Crowded (inr refl) e).makes
 crowded (Ok command.Help) old new n runs e = absurd (let f = (wrote command.Help old new n runs status.Crowded (inr refl) e).makes.0 in cc)
 crowded (Ok (command.Serve rows capacity units dropped counted workers builders)) old new n runs e = absurd (rounds_never (word_parameters rows capacity units dropped counted) (nat_eq workers 1) (ends_of old) (ends_of new) n runs.rounds e)
@@ -654,8 +653,9 @@ read (Ok (command.Serve rows capacity units dropped counted workers builders)) o
 read (Ok (command.Replay rows capacity units dropped counted)) old new n runs e = inl (rounds_read (word_parameters rows capacity units dropped counted) true (ends_of old) (ends_of new) n runs.rounds e)
 read (Ok (command.Params rows capacity units dropped counted)) old new n runs e = absurd (let f = (gave_up (command.Params rows capacity units dropped counted) old new n runs status.ReadFault (inr (inl refl)) e).why in cc)
 read (Ok command.Help) old new n runs e = absurd (let f = (gave_up command.Help old new n runs status.ReadFault (inr (inl refl)) e).why in cc)
-read (Ok (command.Ask rows capacity units dropped counted seed session number)) old new n runs e = inl (gave_up (command.Ask rows capacity units dropped counted seed session number) old new n runs status.ReadFault (inr (inl refl)) e).why.0.1
-read (Ok (command.Open rows capacity units dropped counted seed name)) old new n runs e = (gave_up (command.Open rows capacity units dropped counted seed name) old new n runs status.ReadFault (inr (inl refl)) e).why.1
+read (Ok (command.Ask rows capacity units dropped counted seed session number)) old new n runs e = inl (gave_up (command.Ask rows capacity units dropped counted seed session number) old new n runs status.ReadFault (inr (inl refl)) e).why.0.1.0
+read (Ok (command.Open rows capacity units dropped counted seed name)) old new n runs e =
+    elim (gave_up (command.Open rows capacity units dropped counted seed name) old new n runs status.ReadFault (inr (inl refl)) e).why.1 [ inl source ↦ inl source.0 | inr file ↦ inr file.1 ]
 
 rounds_write : (p : Parameters) (alone : Bool) (old new : Ends) (n : ℕ) → RunsRounds p alone old new n → n ≡ 6 → Rose old.writes_failed new.writes_failed
 rounds_write p alone old new n runs e =

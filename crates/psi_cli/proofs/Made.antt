@@ -1,5 +1,5 @@
 -- What `ask` and `open` make of their items.
-use Rattle.std.proofs.Common.{◌≡◌, ℕ, ◌*◌, List, [], ◌∷◌, ◌++◌, length, map, drop, Option, None, Some, Result, refl, sym, ap, ◌∙◌, subst, inr}
+use Rattle.std.proofs.Common.{◌≡◌, ℕ, ◌*◌, List, [], ◌∷◌, ◌++◌, length, map, drop, Option, None, Some, Result, refl, sym, ap, ◌∙◌, subst, inl, inr}
 use Rattle.std.specs.List.{All, range_with_len}
 use Rattle.std.specs.Option.{IfSome}
 use Rattle.std.specs.Result.{IfErr, IsErrAnd}
@@ -30,10 +30,10 @@ use Rattle.psi_receiver.proofs.Encryptions.{encrypted-ciphertext, length-query}
 use Rattle.psi_cli.specs.declared.status.Status.{Status}
 use Rattle.psi_cli.specs.declared.status.Status.TheVariants as status
 use Rattle.psi_cli.specs.AnswerFiles.{IsAnswerFile}
-use Rattle.psi_cli.specs.ItemTexts.{items_of}
-use Rattle.psi_cli.specs.Opening.{HasNoAnswer, HasNoFile, IsBadOpening, IsRefusedBody, IsNotOpened, IsUnopened, OpensNothing}
+use Rattle.psi_cli.specs.ItemTexts.{IsItemText, items_of}
+use Rattle.psi_cli.specs.Opening.{HasNoAnswer, HasNoFile, HasReadItems, IsBadOpening, IsRefusedBody, IsNotOpened, IsUnopened, OpensNothing}
 use Rattle.psi_cli.specs.Outcomes.{AreCrowded, AreFound, HasAnswer, IsAskFrame}
-use Rattle.psi_cli.specs.Reading.{AsksNothing, HasNoItems}
+use Rattle.psi_cli.specs.Reading.{AsksNothing, HasNoItems, IsTested}
 use Rattle.psi_cli.specs.Texts.{crowded_text, found_text}
 use Rattle.psi_cli.specs.Worlds.{Given}
 
@@ -87,16 +87,37 @@ no_answer p name None files h = tt
 no_answer p name (Some bytes) None h = tt
 no_answer p name (Some bytes) (Some map) h = inr (record { file = h.file; there = h.there; refused = λ body is. absurd (h.none body is) })
 
+-- a text that was read to its end is tested
+ended_tested : (left left_now : Option (List ℕ)) → IfSome left (λ _. left_now ≡ Some []) → IsTested left left_now
+ended_tested None left_now h = tt
+ended_tested (Some bytes) left_now h = inr h
+
+-- a text that is none of items is no input of `open`
+no_text : (p : Parameters) (name : List ℕ) (left : Option (List ℕ)) (files : Option FileMap) → IfSome left (λ bytes. IsItemText bytes → ⊥) → IsBadOpening p name left files
+no_text p name None files h = tt
+no_text p name (Some bytes) None h = tt
+no_text p name (Some bytes) (Some map) h = inl h
+
+pub no_items : (p : Parameters) (name : List ℕ) (old new : Given) (s : Status) → new.files_failed ≡ old.files_failed → HasNoItems old.left new.left old.reads_failed new.reads_failed s → IsNotOpened p name old new s
+no_items p name old new status.BadInput quiet why = (no_text p name old.left old.files why.0, record { source = why.1; file = quiet }, why.2)
+no_items p name old new status.ReadFault quiet why = inl (why.0, why.1, quiet)
+no_items p name old new status.NoMemory quiet why = tt
+no_items p name old new status.Done quiet why = absurd why
+no_items p name old new status.Words quiet why = absurd why
+no_items p name old new status.Parameters quiet why = absurd why
+no_items p name old new status.WriteFault quiet why = absurd why
+no_items p name old new status.Crowded quiet why = absurd why
+
 -- a file that is not read, or has no answer
-pub no_file : (p : Parameters) (name : List ℕ) (old new : Given) (s : Status) → new.reads_failed ≡ old.reads_failed → HasNoFile old.files name old.files_failed new.files_failed s → IsNotOpened p name old new s
-no_file p name old new status.BadInput quiet why = (no_answer p name old.left old.files why.0, record { source = quiet; file = why.1 })
-no_file p name old new status.ReadFault quiet why = inr why
-no_file p name old new status.NoMemory quiet why = tt
-no_file p name old new status.Done quiet why = absurd why
-no_file p name old new status.Words quiet why = absurd why
-no_file p name old new status.Parameters quiet why = absurd why
-no_file p name old new status.WriteFault quiet why = absurd why
-no_file p name old new status.Crowded quiet why = absurd why
+pub no_file : (p : Parameters) (name : List ℕ) (old new : Given) (s : Status) → HasReadItems old new → HasNoFile old.files name old.files_failed new.files_failed s → IsNotOpened p name old new s
+no_file p name old new status.BadInput read why = (no_answer p name old.left old.files why.0, record { source = read.no_read_failed; file = why.1 }, ended_tested old.left new.left read.ended)
+no_file p name old new status.ReadFault read why = inr (read, why)
+no_file p name old new status.NoMemory read why = tt
+no_file p name old new status.Done read why = absurd why
+no_file p name old new status.Words read why = absurd why
+no_file p name old new status.Parameters read why = absurd why
+no_file p name old new status.WriteFault read why = absurd why
+no_file p name old new status.Crowded read why = absurd why
 
 refused_answer : (p : Parameters) (name : List ℕ) (items : List (List ℕ)) (body : List ℕ) (left : Option (List ℕ)) (files : Option FileMap) → IsRefusedBody p items body → IfSome left (λ bytes. items ≡ items_of bytes)
     → IfSome files (λ map. HasAnswer map name body) → IsBadOpening p name left files
@@ -112,16 +133,16 @@ refused_answer p name items body (Some bytes) (Some known) why is h =
     })
 
 -- an answer whose body is refused
-pub unopened : (p : Parameters) (name : List ℕ) (old new : Given) (items : List (List ℕ)) (body : List ℕ) (s : Status) → new.reads_failed ≡ old.reads_failed → new.files_failed ≡ old.files_failed
+pub unopened : (p : Parameters) (name : List ℕ) (old new : Given) (items : List (List ℕ)) (body : List ℕ) (s : Status) → HasReadItems old new → new.files_failed ≡ old.files_failed
     → IfSome old.left (λ bytes. items ≡ items_of bytes) → IfSome old.files (λ map. HasAnswer map name body) → IsUnopened p items body s → IsNotOpened p name old new s
-unopened p name old new items body status.BadInput quiet quiet_file are has why = (refused_answer p name items body old.left old.files why are has, record { source = quiet; file = quiet_file })
-unopened p name old new items body status.NoMemory quiet quiet_file are has why = tt
-unopened p name old new items body status.Done quiet quiet_file are has why = absurd why
-unopened p name old new items body status.Words quiet quiet_file are has why = absurd why
-unopened p name old new items body status.Parameters quiet quiet_file are has why = absurd why
-unopened p name old new items body status.ReadFault quiet quiet_file are has why = absurd why
-unopened p name old new items body status.WriteFault quiet quiet_file are has why = absurd why
-unopened p name old new items body status.Crowded quiet quiet_file are has why = absurd why
+unopened p name old new items body status.BadInput read quiet_file are has why = (refused_answer p name items body old.left old.files why are has, record { source = read.no_read_failed; file = quiet_file }, ended_tested old.left new.left read.ended)
+unopened p name old new items body status.NoMemory read quiet_file are has why = tt
+unopened p name old new items body status.Done read quiet_file are has why = absurd why
+unopened p name old new items body status.Words read quiet_file are has why = absurd why
+unopened p name old new items body status.Parameters read quiet_file are has why = absurd why
+unopened p name old new items body status.ReadFault read quiet_file are has why = absurd why
+unopened p name old new items body status.WriteFault read quiet_file are has why = absurd why
+unopened p name old new items body status.Crowded read quiet_file are has why = absurd why
 
 -- a file in which no answer was found
 pub file_without : (files : Option FileMap) (name file shown : List ℕ) (found : Option (List ℕ)) → IfSome files (λ known. file_at known name ≡ Some file) → shown ≡ file
@@ -141,7 +162,7 @@ opens_nothing p name old new status.Parameters passed why = absurd why
 opens_nothing p name old new status.WriteFault passed why = absurd why
 opens_nothing p name old new status.Crowded passed why = absurd why
 
-pub asks_nothing : (p : Parameters) (left left_now : Option (List ℕ)) (before now : ℕ) (s : Status) → ArePassed p → HasNoItems left before now s → AsksNothing p left left_now before now s
+pub asks_nothing : (p : Parameters) (left left_now : Option (List ℕ)) (before now : ℕ) (s : Status) → ArePassed p → HasNoItems left left_now before now s → AsksNothing p left left_now before now s
 asks_nothing p left left_now before now status.BadInput passed why = (passed, why)
 asks_nothing p left left_now before now status.ReadFault passed why = (passed, why)
 asks_nothing p left left_now before now status.NoMemory passed why = tt

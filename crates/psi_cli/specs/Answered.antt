@@ -149,12 +149,13 @@ IsToldCrowded (Ok (command.Open rows capacity units drop counted seed name)) lef
 IsToldCrowded (Ok (command.Demo number workers)) left files = AreUnplaced (asked_tags number)
 IsToldCrowded _ left files = ⊥
 
--- what crowded items of `ask` and `open` write, where they are told; those of `demo` have no placement, and write nothing
+-- what crowded items of `ask` and `open` write, where they are told, and that the file has an answer; those of `demo` have no placement, and
+-- write nothing
 abbrev pub IfCrowded : Judged → (left : Option (List ℕ)) → (files : Option FileMap) → (List ℕ → Type 0) → Type 0
 IfCrowded (Ok (command.Ask rows capacity units drop counted seed session number)) left files P =
     IfSome left (λ bytes. (text : List ℕ) × AreCrowded rows (items_of bytes) text × P text)
 IfCrowded (Ok (command.Open rows capacity units drop counted seed name)) left files P =
-    IfSome left (λ bytes. IfSome files (λ known. (text : List ℕ) × AreCrowded rows (items_of bytes) text × P text))
+    IfSome left (λ bytes. (text : List ℕ) × AreCrowded rows (items_of bytes) text × P text × IfSome files (λ known. (body : List ℕ) × HasAnswer known name body))
 IfCrowded (Ok (command.Demo number workers)) left files P = AreUnplaced (asked_tags number) × P []
 IfCrowded _ left files P = ⊥
 

@@ -1,5 +1,5 @@
 -- Why `open` comes to nothing.
-use Rattle.std.specs.Prelude.{◌≡◌, ◌⊎◌, ℕ, List, map, Option, Some, IfSome, ⊤}
+use Rattle.std.specs.Prelude.{◌≡◌, ◌⊎◌, ℕ, List, [], map, Option, Some, IfSome, ⊤}
 use Rattle.item_slots.specs.Tags.{tag_of}
 use Rattle.psi_residue.specs.Parameters.{Parameters}
 use Rattle.noise_ledger.specs.Verdicts.{ArePassed}
@@ -12,6 +12,7 @@ use Rattle.psi_cli.specs.declared.status.Status.TheVariants as status
 use Rattle.psi_cli.specs.AnswerFiles.{IsAnswerFile}
 use Rattle.psi_cli.specs.ItemTexts.{IsItemText, items_of}
 use Rattle.psi_cli.specs.Outcomes.{IsNoAnswer}
+use Rattle.psi_cli.specs.Reading.{IsReadWithin, IsTested}
 use Rattle.psi_cli.specs.Worlds.{Given, IsUnread, NoReadFailed}
 
 -- the file of a name has no answer
@@ -42,10 +43,17 @@ IsUnopened p items body _ = ⊥
 abbrev pub IsBadOpening : Parameters → (name : List ℕ) → Option (List ℕ) → Option FileMap → Type 0
 IsBadOpening p name left files = IfSome left (λ bytes. IfSome files (λ map. (IsItemText bytes → ⊥) ⊎ IsNoAnswer p (items_of bytes) map name))
 
--- by the status, and by what is read from: a bad input, a read that failed, or memory that ran out
+-- the items were read to the end of their text
+pub record HasReadItems (old new : Given) : Type 0 where
+  pub item_text : IfSome old.left IsItemText
+  pub ended : IfSome old.left (λ _. new.left ≡ Some [])
+  pub no_read_failed : new.reads_failed ≡ old.reads_failed
+
+-- By the status, and by what is read from: a bad input, a read that failed, or memory that ran out. The file is read behind the items.
 abbrev pub IsNotOpened : Parameters → (name : List ℕ) → (old new : Given) → Status → Type 0
-IsNotOpened p name old new status.BadInput = IsBadOpening p name old.left old.files × NoReadFailed old new
-IsNotOpened p name old new status.ReadFault = Rose old.reads_failed new.reads_failed ⊎ Rose old.files_failed new.files_failed
+IsNotOpened p name old new status.BadInput = IsBadOpening p name old.left old.files × NoReadFailed old new × IsTested old.left new.left
+IsNotOpened p name old new status.ReadFault =
+    (Rose old.reads_failed new.reads_failed × IsReadWithin old.left new.left × (new.files_failed ≡ old.files_failed)) ⊎ (HasReadItems old new × Rose old.files_failed new.files_failed)
 IsNotOpened p name old new status.NoMemory = ⊤
 IsNotOpened p name old new _ = ⊥
 

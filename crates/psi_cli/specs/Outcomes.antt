@@ -99,6 +99,7 @@ pub record OpensText (p : Parameters) (seed name : List ℕ) (left : Option (Lis
   pub ends_so : IsDoneOrCrowded s
   pub item_text : IfSome left IsItemText
   pub makes : IfSome left (λ bytes. IfSome files (λ map. OpensFile p seed (items_of bytes) map name s text))
+  pub crowded : s ≡ status.Crowded → IfSome left (λ bytes. AreCrowded p.rows (items_of bytes) text)
 
 -- What a command comes to that reads its input whole, by what its source has left and by its files.
 abbrev pub Makes : Command → Option (List ℕ) → Option FileMap → Status → List ℕ → Type 0

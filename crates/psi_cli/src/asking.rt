@@ -62,7 +62,7 @@ fn ask_passed<R: Threads + Sync, S: Source>(
     ensures made { IfOk result (λ outcome. AsksText (parameters_of params.now) seed.now address.session address.number (S.left input.old) outcome.status outcome.text.items) }
     ensures ended { OnOk result (IfSome (S.left input.old) (λ _. S.left input.new ≡ Some [])) }
     ensures no_read_failed { OnOk result (S.faults input.new ≡ S.faults input.old) }
-    ensures fault { IfErr result (HasNoItems (S.left input.old) (S.faults input.old) (S.faults input.new)) }
+    ensures fault { IfErr result (HasNoItems (S.left input.old) (S.left input.new) (S.faults input.old) (S.faults input.new)) }
 {
     let items = read_items(alloc, input)?;
     Ok(ask(rt, alloc, params, seed, address, &items)?)

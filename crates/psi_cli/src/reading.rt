@@ -24,7 +24,7 @@ pub fn read_items<S: Source>(alloc: Global, input: &mut S) -> Result<Vec<Vec<u8>
     ensures few { IfOk result (λ items. length items.items < 2 ^ 32) }
     ensures ended { OnOk result (IfSome (S.left input.old) (λ _. S.left input.new ≡ Some [])) }
     ensures no_read_failed { OnOk result (S.faults input.new ≡ S.faults input.old) }
-    ensures fault { IfErr result (HasNoItems (S.left input.old) (S.faults input.old) (S.faults input.new)) }
+    ensures fault { IfErr result (HasNoItems (S.left input.old) (S.left input.new) (S.faults input.old) (S.faults input.new)) }
 {
     match read_all(alloc, input, MOST_TEXT) {
         Ok(text) => short_items(alloc, &text),
@@ -40,7 +40,7 @@ fn short_items(alloc: Global, text: &[u8]) -> Result<Vec<Vec<u8>>, Status>
     ensures items { IfOk result (λ items. map (λ item. item.items) items.items ≡ items_of text.now) }
     ensures text { OnOk result (IsItemText text.now) }
     ensures few { IfOk result (λ items. length items.items < 2 ^ 32) }
-    ensures fault { IfErr result (HasNoItems (Some text.now) 0 0) }
+    ensures fault { IfErr result (HasNoItems (Some text.now) (Some []) 0 0) }
 {
     let items = items_of(alloc, text)?;
     if are_short(&items) {

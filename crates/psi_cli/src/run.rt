@@ -55,6 +55,9 @@ pub fn psi_run<R: Threads + Wait + Sync, S: Source, F: Files, K: Sink, G: Gate>(
     gate: &G,
 ) -> u8
     ensures statuses { IsStatus result }
+    ensures runs { Runs (given_by words.now)
+        (world (S.left input.old) (S.faults input.old) (F.files files.old) (F.faults files.old) (K.written output.old) (K.flushed output.old) (K.faults output.old))
+        (world (S.left input.new) (S.faults input.new) (F.files files.new) (F.faults files.new) (K.written output.new) (K.flushed output.new) (K.faults output.new)) result }
     ensures words { (result ≡ 2 → GivesNone (given_by words.now)) × (GivesNone (given_by words.now) → result ≡ 2) }
     ensures refused { result ≡ 3 → AreRefused (given_by words.now) }
     ensures refused_only { AreRefused (given_by words.now) → IsRefusedOrFails result }

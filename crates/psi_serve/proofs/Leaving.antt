@@ -9,6 +9,7 @@ use Rattle.std.proofs.Math.Seq.{take-append-add}
 use Rattle.psi_residue.specs.Parameters.{Parameters}
 use Rattle.psi_outside.specs.Causes.{Rose, count_on}
 use Rattle.psi_outside.specs.Ends.{Ends}
+use Rattle.psi_outside.specs.Streams.{IsAllFlushed}
 use Rattle.psi_frames.specs.declared.frame.Frame.{Frame}
 use Rattle.psi_frames.specs.Frames.{AreWholeFrames, Fault, IsFrame, Short, frames_bytes, front_fault, most_bytes, request_table}
 use Rattle.psi_frames.specs.Rounds.{AreRounds, IsRound, is_full, request_rounds}
@@ -21,7 +22,7 @@ use Rattle.psi_frames.proofs.Fronts.{fault-stays}
 use Rattle.query_pool.specs.declared.round.Served.{Served}
 use Rattle.psi_serve.specs.declared.stop.Stop.{Stop}
 use Rattle.psi_serve.specs.declared.stop.Stop.TheVariants.{BadInput, ReadFault, WriteFault, NoMemory}
-use Rattle.psi_serve.specs.Serving.{AreRepliesTo, BeginWith, Counts, FillRounds, HasServed, IsAnswered, IsBadInput, IsDone, IsInput, IsLastOrFull, IsOutOfMemory, IsReadFault, IsWriteFault}
+use Rattle.psi_serve.specs.Serving.{AreRepliesTo, BeginWith, Counts, FillRounds, HasServed, IsAnswered, IsBadInput, IsDone, IsFlushedTo, IsInput, IsLastOrFull, IsOutOfMemory, IsReadFault, IsWriteFault}
 use Rattle.psi_serve.specs.Runs.{AreFull, BeginWithRounds, HasAnswered, HasAnsweredAll, IsBadPiece, IsCutOff, IsHalted, IsHearing, IsNew, IsOpen, LastStops, Leaves, Line, PieceStops, Sunk, frames_of, sunk_of}
 use Rattle.psi_serve.proofs.Fewer.{frames-fewer, places-entries}
 use Rattle.psi_serve.proofs.Going.{are-rounds, frames-more, full-rounds, lane-more, open-nil, served-more}
@@ -140,6 +141,21 @@ halted p alone old new bytes more line served same entries replies consumed halt
       (entries ∙ halt.counts.entries) (replies ∙ halt.counts.replies) halt.answered;
 }
 
+-- what a sink had flushed before the call that failed
+flushed-up : (a b : Option (List ℕ)) (m n : Option ℕ) (text : List ℕ) → Appends a b text → IsAllFlushed b m → n ≡ m → IfSome a (λ bytes. IfSome n (λ count. count ≡ length bytes + length text))
+flushed-up None b m n text h all e = tt
+flushed-up (Some x) None m n text h all e = absurd h
+flushed-up (Some x) (Some y) m n text h all e = subst (λ (o : Option ℕ). IfSome o (λ count. count ≡ length x + length text)) (sym e) (each m all)
+  where
+    each : (o : Option ℕ) → IsAllFlushed (Some y) o → IfSome o (λ count. count ≡ length x + length text)
+    each None all = tt
+    each (Some count) all = all ∙ ap length h ∙ length-append x text
+
+flushed-to : (old new : Ends) (middle : Sunk) (text : List ℕ) → Appends old.written middle.written text → IsAllFlushed middle.written middle.flushed ⊎ ((text ≡ []) × (middle.flushed ≡ old.flushed)) → new.flushed ≡ middle.flushed
+    → IsFlushedTo old new text
+flushed-to old new middle text h (inl all) e = inl (flushed-up old.written middle.written middle.flushed new.flushed text h all e)
+flushed-to old new middle text h (inr none) e = inr (none.0, e ∙ none.1)
+
 -- 6
 pub cut_off : (p : Parameters) (alone : Bool) (old new : Ends) (bytes more : List ℕ) (line : Line) (served : Served) → line.alone ≡ alone → served.entries ≡ line.entries → served.replies ≡ line.replies
     → Consumes old.left new.left (bytes ++ more) → (cut : IsCutOff p (sunk_of old) bytes line (sunk_of new))
@@ -170,6 +186,7 @@ cut_off p alone old new bytes more line served same entries replies consumed cut
         one_lane = λ e. lane-more p cut.before cut.rounds cut.sents next (sunk_of old) cut.middle cut.broken.after cut.answered cut.broken.answers (own ∙ e);
       };
       front = (cut.broken.front.0, Appends-trans old.written cut.middle.written new.written (text_of cut.sents) (take cut.broken.front.0 (text_of next)) cut.answered.written cut.broken.front.1);
+      flushed = flushed-to old new cut.middle (text_of cut.sents) cut.answered.written cut.answered.flushed cut.broken.flushed;
       counts = counted p alone cut.before cut.rounds earlier cut.sents (sunk_of old) cut.middle served (entries ∙ cut.broken.counts.entries) (replies ∙ cut.broken.counts.replies) cut.answered;
       failed = let rose = cut.broken.failed in let kept = cut.answered.no_write_failed in omega (arith, rose, kept);
     }

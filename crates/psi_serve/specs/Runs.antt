@@ -74,12 +74,13 @@ pub record HasCountsOf (old new : Line) : Type 0 where
   pub entries : new.entries ≡ old.entries
   pub replies : new.replies ≡ old.replies
 
--- a write or a flush failed behind a front of the round's replies
+-- a write or a flush failed behind a front of the round's replies, and nothing more is flushed
 pub record HasBroken (p : Parameters) (old new : Line) (before now : Sunk) : Type 0 where
   pub next : List Sent
   pub after : List Entry
   pub answers : AnswersRound p old.alone old.journal after old.waiting next
   pub front : (n : ℕ) × Appends before.written now.written (take n (text_of next))
+  pub flushed : now.flushed ≡ before.flushed
   pub failed : Rose before.failed now.failed
   pub counts : HasCountsOf old new
 

@@ -1,5 +1,5 @@
 -- What serving an input leaves of its source and its sink, by its status.
-use Rattle.std.specs.Prelude.{◌≡◌, ◌⊎◌, ℕ, ◌<◌, ◌≤◌, Bool, true, IsTrue, List, [], ◌++◌, length, take, Option, Some, None, IfSome, IsSome}
+use Rattle.std.specs.Prelude.{◌≡◌, ◌⊎◌, ℕ, ◌+◌, ◌<◌, ◌≤◌, Bool, true, IsTrue, List, [], ◌++◌, length, take, Option, Some, None, IfSome, IsSome}
 use Rattle.std.specs.List.{All, flat_map, filter_map}
 use Rattle.std.specs.Io.KnownBytes.{Appends, Consumes}
 use Rattle.psi_residue.specs.Parameters.{Parameters}
@@ -34,6 +34,10 @@ pub record Counts (served : Served) (sents : List Sent) : Type 0 where
 -- all that the sink holds is flushed; or nothing was written, and as much is flushed as before
 abbrev pub IsFlushedBehind : (old new : Ends) → (text : List ℕ) → Type 0
 IsFlushedBehind old new text = IsAllFlushed new.written new.flushed ⊎ ((text ≡ []) × (new.flushed ≡ old.flushed))
+
+-- up to the end of the text all is flushed, and no more; or the text is empty, and as much is flushed as before
+abbrev pub IsFlushedTo : (old new : Ends) → (text : List ℕ) → Type 0
+IsFlushedTo old new text = IfSome old.written (λ bytes. IfSome new.flushed (λ count. count ≡ length bytes + length text)) ⊎ ((text ≡ []) × (new.flushed ≡ old.flushed))
 
 -- The replies to these frames were written behind what the sink held, and flushed. The run counts them, and no write failed.
 pub record IsAnswered (p : Parameters) (alone : Bool) (frames : List Frame) (old new : Ends) (served : Served) : Type 0 where
@@ -99,8 +103,8 @@ pub record FillRounds (frames : List Frame) : Type 0 where
 abbrev pub IsLastOrFull : (taken : List ℕ) → (frames round : List Frame) → Type 0
 IsLastOrFull taken frames round = IsTrue (is_full round) ⊎ ((fault : Option Fault) × AreWholeFrames request_table taken frames fault)
 
--- 6: a write or a flush failed in some round; the replies of earlier rounds stand whole, then a front of that round's. The run counts
--- the replies of the earlier rounds.
+-- 6: a write or a flush failed in some round; the replies of earlier rounds stand whole and are flushed, then a front of that round's,
+-- not flushed. The run counts the replies of the earlier rounds.
 pub record IsWriteFault (p : Parameters) (alone : Bool) (old new : Ends) (served : Served) : Type 0 where
   pub taken : List ℕ
   pub consumed : Consumes old.left new.left taken
@@ -115,6 +119,7 @@ pub record IsWriteFault (p : Parameters) (alone : Bool) (old new : Ends) (served
   pub last : List Sent
   pub replies : AreRepliesTo p alone (earlier ++ round) (done ++ last)
   pub front : (n : ℕ) × Appends old.written new.written (text_of done ++ take n (text_of last))
+  pub flushed : IsFlushedTo old new (text_of done)
   pub counts : Counts served done
   pub failed : Rose old.writes_failed new.writes_failed
 

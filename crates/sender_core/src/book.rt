@@ -113,6 +113,7 @@ impl<C: Cached + Drop> Book<C> {
         ensures full { length self.old.journal ≡ 2 ^ 20 → IsErr result }
         ensures cause { IfErr result (λ refusal. refusal ≡ cause_at (length self.old.journal)) }
         ensures kept { OnErr result (IsAsBefore self.old self.new) }
+        ensures full_kept { length self.old.journal ≡ 2 ^ 20 → self.new ≡ self.old }
     {
         let place = self.next_place()?;
         match self.state.put(alloc, tag, label) {
@@ -131,6 +132,7 @@ impl<C: Cached + Drop> Book<C> {
         ensures full { length self.old.journal ≡ 2 ^ 20 → IsErr result }
         ensures cause { IfErr result (λ refusal. refusal ≡ cause_at (length self.old.journal)) }
         ensures kept { OnErr result (IsAsBefore self.old self.new) }
+        ensures full_kept { length self.old.journal ≡ 2 ^ 20 → self.new ≡ self.old }
     {
         let place = self.next_place()?;
         match self.state.drop_tag(alloc, tag) {
@@ -152,6 +154,7 @@ impl<C: Cached + Drop> Book<C> {
         ensures full { length self.old.journal ≡ 2 ^ 20 → IsErr result }
         ensures cause { IfErr result (λ refusal. refusal ≡ cause_at (length self.old.journal)) }
         ensures kept { OnErr result (IsAsBefore self.old self.new) }
+        ensures full_kept { length self.old.journal ≡ 2 ^ 20 → self.new ≡ self.old }
     {
         let place = self.next_place()?;
         let answer = match self.seen(alloc, place) {
@@ -195,6 +198,7 @@ impl<C: Cached + Drop> Book<C> {
         ensures full { length self.old.journal ≡ 2 ^ 20 → IsErr result }
         ensures cause { IfErr result (λ refusal. refusal ≡ cause_at (length self.old.journal)) }
         ensures kept { OnErr result (IsAsBefore self.old self.new) }
+        ensures full_kept { length self.old.journal ≡ 2 ^ 20 → self.new ≡ self.old }
     {
         let place = self.next_place()?;
         match self.state.repack(alloc, view.row(), view.from(), packed) {

@@ -11,5 +11,5 @@ returns-in-Ok-clause-fault g c =
     let left = g.S.Source.left c.args.input.now in
     let before = g.S.Source.faults c.args.input.now in
     let now = g.S.Source.faults c.ask_passed.new.input in
-    IfErr-weaker c.ask_passed.result (HasNoItems left before now) (AsksNothing p left (g.S.Source.left c.ask_passed.new.input) before now)
+    IfErr-weaker c.ask_passed.result (HasNoItems left (g.S.Source.left c.ask_passed.new.input) before now) (AsksNothing p left (g.S.Source.left c.ask_passed.new.input) before now)
     (λ s why. asks_nothing p left (g.S.Source.left c.ask_passed.new.input) before now s (c.in-Ok.ensures.passed.0 refl) why) c.ask_passed.ensures.fault

@@ -1,4 +1,4 @@
-use Rattle.std.proofs.Common.{true, false, map, refl, sym, ap, ◌∙◌}
+use Rattle.std.proofs.Common.{true, false, inr, map, refl, sym, ap, ◌∙◌}
 use Rattle.psi_cli.proofs.ShortItems.{item_text, no_item_text, tested}
 use Rattle.psi_cli.proofs.reading.short_items.Goals as goal
 
@@ -12,4 +12,5 @@ returns-else-are_short-clause-fault c = (
   no_item_text c.args.text.now
       (tested (λ item. item.items) c.deref.result.now c.args.text.now false (sym c.if-are_short.false ∙ c.are_short.ensures) (ap (map (λ item. item.items)) c.deref.ensures.value ∙ c.in_ok-items.ensures.items)),
   refl,
+  inr refl,
 )

@@ -11,6 +11,7 @@ returns g c =
     let new : World = world (g.S.Source.left c.run_words.new.input) (g.S.Source.faults c.run_words.new.input) (g.F.Files.files c.run_words.new.files) (g.F.Files.faults c.run_words.new.files) (g.K.Sink.written c.run_words.new.output) (g.K.Sink.flushed c.run_words.new.output) (g.K.Sink.faults c.run_words.new.output) in
     record {
       statuses = clause.statuses words old new c.run_words.result c.run_words.ensures.runs;
+      runs = c.run_words.ensures.runs;
       words = clause.words words old new c.run_words.result c.run_words.ensures.runs;
       refused = clause.refused words old new c.run_words.result c.run_words.ensures.runs;
       refused_only = clause.refused_only words old new c.run_words.result c.run_words.ensures.runs;

@@ -42,6 +42,7 @@ returns-clause-stops g c =
       after = g.A.Answers.journal c.answer.new.self;
       answers = answers-round p _ _ _ _ requests replies are c.in_ok-requests.ensures.fit c.in_ok-replies.ensures.served c.in_ok-replies.ensures.one_lane;
       front = (c.in-Err.ensures.front.0, subst (λ (t : List ℕ). Appends (g.K.Sink.written c.args.sink.now) (g.K.Sink.written c.write_all.new.sink) (take c.in-Err.ensures.front.0 t)) (c.deref-4.ensures.value ∙ text) c.in-Err.ensures.front.1);
+      flushed = c.in-Err.ensures.unflushed;
       failed = omega (arith, c.in-Err.ensures.cause.failed);
       counts = record { alone = c.answer.ensures.alone; entries = refl; replies = refl };
     }
