@@ -1,4 +1,7 @@
 //! Whole runs over memory: the status and what was written.
+ghost use Rattle.std.specs.Prelude.{IfOk};
+ghost use Rattle.psi_outside.specs.InMemory.{DifferInName, file_entries};
+
 use crate::run::psi_run;
 use psi_outside::{Gate, Held, Hold, MemoryFiles, MemorySink, MemorySource, Open, Point};
 use psi_words::help_text;
@@ -44,8 +47,29 @@ const ADDED_FIRST: &[u8] =
 const ADDED_SECOND: &[u8] =
     b"\x00\x00\x00\x0f\x81\x00\x02\x00\x00\x00\x01\x00\x00\x00\x00\x00\x00\x00\x01";
 
+// A seed of zeros.
+const ZEROS: &str = "0000000000000000000000000000000000000000000000000000000000000000";
+
 // What a run leaves: its status, and the bytes that it wrote.
 type Left = (u8, Vec<u8>);
+
+// The words of a command line.
+fn given_words(alloc: Global, words: &[&str]) -> Result<Vec<String>, AllocError> {
+    let mut given = Vec::new(alloc);
+    for word in words {
+        given.push(String::from_str(alloc, word)?)?;
+    }
+    Ok(given)
+}
+
+// A file `answer` with these bytes, and no other.
+fn one_file(alloc: Global, bytes: &[u8]) -> Result<Vec<(String, Vec<u8>)>, AllocError>
+    ensures { IfOk result (λ files. DifferInName (file_entries files.items)) }
+{
+    let mut files = Vec::new(alloc);
+    files.push((String::from_str(alloc, "answer")?, bytes.to_vec(alloc)?))?;
+    Ok(files)
+}
 
 // A run on these words, this source, and a file `answer`.
 fn run<R: Threads + Wait + Sync>(
@@ -67,12 +91,8 @@ fn run_past<R: Threads + Wait + Sync, G: Gate>(
     answer: &[u8],
     gate: &G,
 ) -> Result<Left, AllocError> {
-    let mut given = Vec::new(alloc);
-    for word in words {
-        given.push(String::from_str(alloc, word)?)?;
-    }
-    let mut files = Vec::new(alloc);
-    files.push((String::from_str(alloc, "answer")?, answer.to_vec(alloc)?))?;
+    let given = given_words(alloc, words)?;
+    let files = one_file(alloc, answer)?;
     let mut source = MemorySource::open(bytes.to_vec(alloc)?, 8192, Vec::new(alloc));
     let mut sink = MemorySink::open(alloc, 262144, Vec::new(alloc))?;
     let mut files = MemoryFiles::open(files, Vec::new(alloc));
@@ -201,6 +221,46 @@ fn a_replaced_label_is_opened(rt: HostRuntime) -> Result<(), Fail> {
         text.as_slice(),
         b"616263 0 02020202020202020202\n".as_slice()
     );
+    Ok(())
+}
+
+// What `open` leaves on the item abc, with the file of this name: there is a file `answer` with these bytes, and the reads
+// of files with these numbers fail.
+fn open_abc<R: Threads + Wait + Sync>(
+    rt: &R,
+    alloc: Global,
+    name: &str,
+    bytes: &[u8],
+    fails: &[u64],
+) -> Result<Left, AllocError> {
+    let given = given_words(alloc, &["open", "1", "1", "0", ZEROS, name])?;
+    let mut source = MemorySource::open(b"abc".to_vec(alloc)?, 8192, Vec::new(alloc));
+    let mut files = MemoryFiles::open(one_file(alloc, bytes)?, fails.to_vec(alloc)?);
+    let mut sink = MemorySink::open(alloc, 262144, Vec::new(alloc))?;
+    let status = psi_run(rt, alloc, &given, &mut source, &mut files, &mut sink, &Open);
+    Ok((status, sink.bytes().to_vec(alloc)?))
+}
+
+#[test]
+fn files_that_are_no_answer_are_refused(rt: HostRuntime) -> Result<(), Fail> {
+    let alloc = rt.alloc();
+    let mut longer = NO_BUNDLE.to_vec(alloc)?;
+    longer.push(0)?;
+    let greatest = vec![in alloc; 0; 5242916]?;
+    let rows: [(&str, &[u8], &[u64], u8); 7] = [
+        ("missing", NO_BUNDLE, &[], 5),
+        ("answer", NO_BUNDLE, &[0], 5),
+        ("answer", b"", &[], 4),
+        ("answer", ADDED, &[], 4),
+        ("answer", &longer, &[], 4),
+        ("answer", NO_BUNDLE, &[], 0),
+        ("answer", &greatest, &[], 4),
+    ];
+    for (row, (name, bytes, fails, want)) in rows.into_iter().enumerate() {
+        let (status, written) = open_abc(&rt, alloc, name, bytes, fails)?;
+        assert_eq!(rt; status, want, "{row}");
+        assert!(rt; written.is_empty(), "{row}");
+    }
     Ok(())
 }
 

@@ -1,18 +1,22 @@
 //! Rounds on an empty set of one row, with bins of one member and no labels.
-ghost use Rattle.std.specs.Prelude.{◌≤◌, ◌<◌, IfSome};
-ghost use Rattle.psi_frames.specs.Requests.{IsFit};
+ghost use Rattle.std.specs.Prelude.{◌≡◌, ◌≤◌, ◌<◌, IfSome, length};
+ghost use Rattle.std.specs.List.{All};
+ghost use Rattle.noise_ledger.specs.Verdicts.{ArePassed, parameters_of};
+ghost use Rattle.psi_frames.specs.Requests.{IsFit, count_asks};
 ghost use Rattle.query_pool.specs.Tried.{smallest};
 
 use crate::{Shape, round_alone, run_round};
+use bundle_cache::Cache;
 use item_slots::tag_of;
 use noise_ledger::{Params, check};
 use psi_bundle::Label;
 use psi_frames::{Reply, Request};
-use psi_outside::Open;
+use psi_outside::{Gate, Held, Hold, Open, Point};
 use query_codec::{Ciphertext, Ciphertexts};
 use sender_core::Book;
 use std::alloc::Global;
 use std::sync::Wait;
+use std::test::Fail;
 use std::thread::Threads;
 
 // What a reply tells; of a body its length.
@@ -52,17 +56,24 @@ fn what_is_told(reply: &Reply) -> Told {
     }
 }
 
-// A Put of `abc`.
-fn put() -> Option<Request>
+// A Put of an item.
+fn put_of(item: &[u8]) -> Option<Request>
     ensures { IfSome result (IsFit smallest) }
 {
     let label = Label::of(b"")?;
     Some(Request::Put {
         session: 1,
         number: 1,
-        tag: tag_of(b"abc"),
+        tag: tag_of(item),
         label,
     })
+}
+
+// A Put of `abc`.
+fn put() -> Option<Request>
+    ensures { IfSome result (IsFit smallest) }
+{
+    put_of(b"abc")
 }
 
 // A Drop of `abc`.
@@ -225,4 +236,105 @@ fn rounds_of_some_lanes(rt: HostRuntime) {
         two_joined(&rt, alloc, bad(2), repack(), 8),
         Some([Told::Refused(2), packed])
     );
+}
+
+// A book of the item `abc`, in one bundle without a cache.
+fn one_bundle(alloc: Global, params: &Params) -> Option<Book<Cache>>
+    requires passed { ArePassed (parameters_of params.now) }
+    requires units { (parameters_of params.now).units ≡ 0 }
+    ensures { IfSome result (λ book. book.parameters ≡ parameters_of params.now) }
+{
+    let mut book = Book::open(alloc, params).ok()?;
+    let label = Label::of(b"")?;
+    book.put(alloc, tag_of(b"abc"), label).ok()?;
+    Some(book)
+}
+
+// What the replies to some requests tell, on a book of the item `abc`, with a gate that the threads pass.
+fn told_past<R: Threads + Wait + Sync, G: Gate>(
+    rt: &R,
+    alloc: Global,
+    requests: Vec<Request>,
+    shape: Shape,
+    gate: &G,
+) -> Option<Vec<Told>>
+    requires few { length requests.items ≤ 4096 }
+    requires asks { count_asks requests.items ≤ 32 }
+    requires fit { All (IsFit smallest) requests.items }
+    requires workers { (1 ≤ shape.workers) × (shape.workers ≤ 8) }
+    requires builders { shape.builders ≤ 4 }
+{
+    let params = Params::of(1, 1, 0);
+    if check(&params).is_err() {
+        return None;
+    }
+    let book = one_bundle(alloc, &params)?;
+    let round = run_round(rt, alloc, &params, book, requests, shape, gate).ok()?;
+    let mut told = Vec::new(alloc);
+    for reply in &round.replies {
+        told.push(what_is_told(reply)).ok()?;
+    }
+    Some(told)
+}
+
+// Neither the query's evaluation nor the builder's install begins before the other is due.
+#[test]
+fn a_builder_installs_beside_a_query(rt: HostRuntime) -> Result<(), Fail> {
+    let alloc = rt.alloc();
+    let (asked, built) = ((Point::AfterTurn, 0), (Point::BeforeInstall, 0));
+    let holds = vec![in alloc;
+        Hold {
+            at: asked,
+            until: built
+        },
+        Hold {
+            at: built,
+            until: asked
+        },
+    ]?;
+    let gate = Held::open(1 << 26, holds);
+    let shape = Shape {
+        workers: 1,
+        builders: 1,
+    };
+    let query = ask(alloc).ok_or("memory")?;
+    let requests = vec![in alloc; query]?;
+    let told = told_past(&rt, alloc, requests, shape, &gate).ok_or("refused")?;
+    assert_eq!(rt; told.as_slice(), [Told::Answer(1, 81930)].as_slice());
+    assert!(rt; !gate.late(&rt));
+    assert!(rt; gate.met(&rt, 0) && gate.met(&rt, 1));
+    Ok(())
+}
+
+// The Put's turn ends before the query of the turn before it is evaluated.
+#[test]
+fn a_put_waits_for_no_evaluation(rt: HostRuntime) -> Result<(), Fail> {
+    let alloc = rt.alloc();
+    let asked = (Point::AfterTurn, 0);
+    let holds = vec![in alloc;
+        Hold {
+            at: (Point::BeforeTurn, 1),
+            until: asked
+        },
+        Hold {
+            at: asked,
+            until: (Point::AfterTurn, 1)
+        },
+    ]?;
+    let gate = Held::open(1 << 26, holds);
+    let shape = Shape {
+        workers: 2,
+        builders: 0,
+    };
+    let query = ask(alloc).ok_or("memory")?;
+    let other = put_of(b"xyz").ok_or("label")?;
+    let requests = vec![in alloc; query, other]?;
+    let told = told_past(&rt, alloc, requests, shape, &gate).ok_or("refused")?;
+    assert_eq!(rt;
+        told.as_slice(),
+        [Told::Answer(1, 81930), Told::Added(2)].as_slice()
+    );
+    assert!(rt; !gate.late(&rt));
+    assert!(rt; gate.met(&rt, 0) && gate.met(&rt, 1));
+    Ok(())
 }
