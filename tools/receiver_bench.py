@@ -2,7 +2,7 @@
 """Writes the crate bench_receiver, which measures the receiver: a query of 500 items at capacity 64, and opening a reply.
 
 No part of the gate. In a copy of the repository, run this at the top, add the line
-`bench_receiver: anyhow bfv_core noise_ledger psi_receiver query_codec` to crates.txt, and `rt run` in
+`bench_receiver: anyhow bfv_core noise_ledger psi_receiver psi_residue query_codec` to crates.txt, and `rt run` in
 crates/bench_receiver; then run out/bench_receiver there, on all processors, and on one (`taskset -c 0`), so that rayon's
 threads share it. The line has the least times of some rounds, in nanoseconds a ciphertext: of `ask`, 64 ciphertexts, and
 of `open`, a reply of 60 bundles in which nothing is found.
@@ -12,7 +12,8 @@ import pathlib
 MAIN = """//! How long a query and the opening of a reply take: the least of some rounds, in nanoseconds a ciphertext.
 #![tactic(auto)]
 ghost use Rattle.std.specs.Prelude.{◌≡◌, ◌*◌, ◌<◌, ◌≤◌, ◌^◌, IfOk, length};
-ghost use Rattle.noise_ledger.specs.Verdicts.{ArePassed, parameters_of};
+ghost use Rattle.psi_residue.specs.Numbers.{plain_modulus};
+ghost use Rattle.psi_residue.specs.Polynomials.{IsPolynomial};
 
 use anyhow::anyhow;
 use bfv_core::{Ciphertext, SecretKey, encrypt};
@@ -36,14 +37,22 @@ fn items(alloc: Global, number: u32) -> Result<Vec<Vec<u8>>, AllocError>
     Ok(items)
 }
 
+// The constant polynomial 1, which is 1 in each slot.
+fn one() -> [u32; 4096]
+    ensures { IsPolynomial plain_modulus result }
+{
+    let mut plain = [0; 4096];
+    plain[0] = 1;
+    plain
+}
+
 // Encryptions of 1 in each slot, so many.
 fn ones(alloc: Global, number: u16) -> Result<Vec<Ciphertext>, AllocError>
     requires { number < 2400 }
     ensures { IfOk result (λ cts. length cts.items ≡ number) }
 {
     let key = SecretKey::of(alloc, &SEED)?;
-    let mut plain = [0; 4096];
-    plain[0] = 1;
+    let plain = one();
     let mut cts = Vec::new(alloc);
     for c in 0..number {
         cts.push(encrypt(alloc, &key, &SEED, u32::from(c), &plain)?)?;
@@ -65,7 +74,7 @@ fn least<R: Threads + Sync>(rt: &HostRuntime, threads: &R) -> Result<(u128, u128
     };
     let mut asked = u128::MAX;
     let mut opened = u128::MAX;
-    for _ in 0..20 {
+    for _ in 0..200 {
         let t0 = Instant::now(rt)?;
         let query = ask(threads, alloc, &params, &SEED, &items).ok();
         let t1 = Instant::now(rt)?;
@@ -101,10 +110,18 @@ abbrev pub invariant-loop-c : goal.invariant-loop-c
 invariant-loop-c l = length l.cts.items ≡ l.c
 """
 
+ONE = """use Rattle.std.proofs.Common.{arith, replicate}
+use Rattle.psi_residue.proofs.Polynomials.{IsPolynomial-constant, IsPolynomial-set}
+use Rattle.bench_receiver.proofs.one.Goals as goal
+
+pub returns : goal.returns
+returns c = IsPolynomial-set 65537 (replicate 4096 0) 0 1 (IsPolynomial-constant 65537 0 (omega arith)) (omega arith)
+"""
+
 
 def main():
     crate = pathlib.Path("crates/bench_receiver")
-    files = {"src/main.rt": MAIN, "proofs/items/Invariants.antt": ITEMS, "proofs/ones/Invariants.antt": ONES}
+    files = {"src/main.rt": MAIN, "proofs/items/Invariants.antt": ITEMS, "proofs/ones/Invariants.antt": ONES, "proofs/one/Answers.antt": ONE}
     for name, text in files.items():
         (crate / name).parent.mkdir(parents=True, exist_ok=True)
         (crate / name).write_text(text)
