@@ -10,6 +10,7 @@ mod fault;
 mod found;
 mod laws;
 mod opening;
+mod pieces;
 mod placement;
 mod query;
 mod slots;

@@ -12,6 +12,7 @@ ghost use Rattle.psi_receiver.specs.Openings.{AreOpened, IsOpenedPlane, opened, 
 use crate::asking::{first_long, tags_of};
 use crate::fault::OpenFault;
 use crate::found::Found;
+use crate::pieces::least_piece;
 use crate::placement::{Placed, place_tags};
 use crate::slots::{BINS, PARTS, Slots};
 use bfv_core::SecretKey;
@@ -117,7 +118,7 @@ fn open_ciphertexts<R: Threads + Sync>(
 {
     (0..number)
         .into_par_iter()
-        .with_min_len(1)
+        .with_min_len(least_piece(rt, number))
         .map(
             |c: usize| -> Result<Slots, CodecFault>
                 requires { (c < planes_of (parameters_of params.now) (reply_counts (parameters_of params.now) reply.now)) × ArePassed (parameters_of params.now) × IsReplyHead (parameters_of params.now) reply.now }

@@ -10,6 +10,7 @@ ghost use Rattle.bfv_core.specs.EncryptedLists.{encrypted, key_of_seed};
 ghost use Rattle.query_codec.specs.Ciphertexts.{ciphertext_bytes, ciphertexts_bytes};
 ghost use Rattle.psi_receiver.specs.Queries.{powers_of, query_ciphertexts, row_values};
 
+use crate::pieces::least_piece;
 use crate::placement::Placed;
 use crate::slots::{BINS, PARTS, Slots};
 use batching::pack;
@@ -56,9 +57,10 @@ fn encrypt_powers<R: Threads + Sync>(
     requires key_of_this_seed { key.now ≡ key_of_seed seed.now }
     ensures { IfOk result (λ pieces. map (λ piece. piece.items) pieces.items ≡ map (λ c. ciphertext_bytes (encrypted seed.now c (packed_list (powers_of (slice_index_or values.now (c / capacity) []) (c % capacity + 1))))) (range_with_len 0 (length values.now * capacity))) }
 {
-    (0..values.len() as u32 * capacity)
+    let number = values.len() as u32 * capacity;
+    (0..number)
         .into_par_iter()
-        .with_min_len(1)
+        .with_min_len(least_piece(rt, number as usize))
         .map(
             |c: u32| -> Result<Vec<u8>, AllocError>
                 requires { (c < length values.now * capacity) × (length values.now * capacity ≤ 2400) × (key.now ≡ key_of_seed seed.now) }
