@@ -94,7 +94,7 @@ fn run_past<R: Threads + Wait + Sync, G: Gate>(
     let given = given_words(alloc, words)?;
     let files = one_file(alloc, answer)?;
     let mut source = MemorySource::open(bytes.to_vec(alloc)?, 8192, Vec::new(alloc));
-    let mut sink = MemorySink::open(alloc, 262144, Vec::new(alloc))?;
+    let mut sink = MemorySink::open(alloc, 1 << 20, Vec::new(alloc))?;
     let mut files = MemoryFiles::open(files, Vec::new(alloc));
     let status = psi_run(rt, alloc, &given, &mut source, &mut files, &mut sink, gate);
     Ok((status, sink.bytes().to_vec(alloc)?))
@@ -196,31 +196,41 @@ fn an_emptied_bundle_answers_the_scale(rt: HostRuntime) -> Result<(), Fail> {
     Ok(())
 }
 
-#[test]
-fn a_replaced_label_is_opened(rt: HostRuntime) -> Result<(), Fail> {
-    let alloc = rt.alloc();
+// What `open` writes for some items, from the answer to their query behind some puts, whose replies have so many bytes.
+fn opened_behind<R: Threads + Wait + Sync>(
+    rt: &R,
+    alloc: Global,
+    [capacity, units]: [&str; 2],
+    puts: &[u8],
+    size: usize,
+) -> Result<Left, AllocError> {
     let items = b"abc\nxyz\nabc";
-    let words = ["ask", "1", "1", "1", SEED, "1", "3"];
-    let (asked, query) = run(&rt, alloc, &words, items, b"")?;
-    assert_eq!(rt; asked, 0);
-    let mut bytes = PUT_ONES.to_vec(alloc)?;
-    bytes.extend_from_slice(PUT_TWOS)?;
+    let asked = ["ask", "1", capacity, units, SEED, "1", "3"];
+    let (_, query) = run(rt, alloc, &asked, items, b"")?;
+    let mut bytes = puts.to_vec(alloc)?;
     bytes.extend_from_slice(&query)?;
-    let (served, replies) = run(&rt, alloc, &["serve", "1", "1", "1", "1", "0"], &bytes, b"")?;
-    assert_eq!(rt; served, 0);
-    let answer = replies.as_slice().get(38..).expect(&rt, "three replies");
-    let (opened, text) = run(
-        &rt,
-        alloc,
-        &["open", "1", "1", "1", SEED, "answer"],
-        items,
-        answer,
-    )?;
-    assert_eq!(rt; opened, 0);
-    assert_eq!(rt;
-        text.as_slice(),
-        b"616263 0 02020202020202020202\n".as_slice()
-    );
+    let served = ["serve", "1", capacity, units, "1", "0"];
+    let (_, replies) = run(rt, alloc, &served, &bytes, b"")?;
+    let answer = replies.as_slice().get(size..).unwrap_or(b"");
+    let opened = ["open", "1", capacity, units, SEED, "answer"];
+    run(rt, alloc, &opened, items, answer)
+}
+
+// At capacity 4 without a label, and at capacity 1 with the label that came last.
+#[test]
+fn a_member_is_found_in_its_bundle_with_its_label(rt: HostRuntime) -> Result<(), Fail> {
+    let alloc = rt.alloc();
+    let mut twice = PUT_ONES.to_vec(alloc)?;
+    twice.extend_from_slice(PUT_TWOS)?;
+    let rows: [([&str; 2], &[u8], usize, &str); 2] = [
+        (["4", "0"], PUT, 19, "616263 0 -\n"),
+        (["1", "1"], &twice, 38, "616263 0 02020202020202020202\n"),
+    ];
+    for (form, puts, size, want) in rows {
+        let (status, text) = opened_behind(&rt, alloc, form, puts, size)?;
+        assert_eq!(rt; status, 0);
+        assert_eq!(rt; text.as_slice(), want.as_bytes());
+    }
     Ok(())
 }
 
@@ -236,7 +246,7 @@ fn open_abc<R: Threads + Wait + Sync>(
     let given = given_words(alloc, &["open", "1", "1", "0", ZEROS, name])?;
     let mut source = MemorySource::open(b"abc".to_vec(alloc)?, 8192, Vec::new(alloc));
     let mut files = MemoryFiles::open(one_file(alloc, bytes)?, fails.to_vec(alloc)?);
-    let mut sink = MemorySink::open(alloc, 262144, Vec::new(alloc))?;
+    let mut sink = MemorySink::open(alloc, 1 << 20, Vec::new(alloc))?;
     let status = psi_run(rt, alloc, &given, &mut source, &mut files, &mut sink, &Open);
     Ok((status, sink.bytes().to_vec(alloc)?))
 }
