@@ -1,21 +1,26 @@
 -- The lists that an encryption writes.
-use Rattle.std.proofs.Common.{◌≡◌, ℕ, ◌+◌, ◌-◌, ◌*◌, ◌%◌, ◌<◌, ◌≤◌, List, [], ◌∷◌, ◌++◌, length, get_or, set, take, drop, ap, sym, subst, ◌∙◌, arith, ℤ, pos, unsigned_abs}
+use Rattle.std.proofs.Common.{◌≡◌, ℕ, ◌+◌, ◌-◌, ◌*◌, ◌%◌, ◌<◌, ◌≤◌, List, [], ◌∷◌, ◌++◌, length, get_or, take, drop, ap, sym, subst, ◌∙◌, arith, ℤ, pos, unsigned_abs}
 use Rattle.std.specs.List.{All}
 use Rattle.std.proofs.Math.Seq.{take-append_seam}
 use Rattle.std.proofs.lemmas.List.FromFn.{fill_by_all}
 use Rattle.psi_residue.specs.Numbers.{first_modulus, second_modulus, scale}
+use Rattle.psi_residue.specs.Polynomials.{IsPolynomial}
 use Rattle.psi_residue.specs.Ring.{product_at}
 use Rattle.psi_residue.specs.Residues.{residue_of, residues_of}
 use Rattle.psi_residue.proofs.Sums.{same_as_table, table-same}
 use Rattle.psi_sampler.specs.Sampling.{key_coefficient, first_mask_residue, second_mask_residue, error_coefficient}
 use Rattle.bfv_core.specs.Encryptions.{Carries}
 use Rattle.bfv_core.specs.EncryptedLists.{key_of_seed, hidden, encrypted, first_mask, second_mask}
-use Rattle.bfv_core.proofs.FourLists.{four_written}
 use Rattle.bfv_core.proofs.Carrying.{carries-encrypted}
 
 -- a slice of a vector that was written as a whole
 pub whole-written : {X : Type 0} (new old : List X) (len : ℕ) → length new ≡ len → take len (new ++ drop (length new) old) ≡ new
 whole-written new old len e = ap (λ (n : ℕ). take n (new ++ drop (length new) old)) (sym e) ∙ take-append_seam new (drop (length new) old)
+
+-- and then it is a polynomial, where its values are residues
+pub written-polynomial : (m : ℕ) (new old : List ℕ) (len : ℕ) → length new ≡ len → len ≡ 4096 → All (λ x. x < m) new → IsPolynomial m (take len (new ++ drop (length new) old))
+written-polynomial m new old len e size below =
+    subst (IsPolynomial m) (sym (whole-written new old len e)) (record { size = omega (arith, e, size); below = λ i lt. below i 0 (omega (arith, e, size)) })
 
 pub key_from : (seed : List ℕ) (xs : List ℤ) → length xs ≡ 4096 → ((k : ℕ) → k < 4096 → get_or xs k (pos 0) ≡ key_coefficient seed k) → xs ≡ key_of_seed seed
 unfolding key_of_seed
@@ -37,18 +42,13 @@ hidden-same m mask mask' key key' error error' plain same_mask same_key same =
     table-same 4096 _ _
     (λ k lt. λ i. (residue_of m (same k lt i) + (m - product_at m 4096 (same_mask i) (residues_of m (same_key i)) k) + scale * get_or plain k 0) % m)
 
--- four lists, written one after the other
-pub encrypted_from : (seed : List ℕ) (c : ℕ) (plain : List ℕ) (ct0 ct1 ct2 ct3 ct4 : List (List ℕ)) (h1 h2 m1 m2 : List ℕ)
-    → length ct0 ≡ 4 → ct1 ≡ set ct0 0 h1 → ct2 ≡ set ct1 1 h2 → ct3 ≡ set ct2 2 m1 → ct4 ≡ set ct3 3 m2
+-- the four lists
+pub encrypted_from : (seed : List ℕ) (c : ℕ) (plain : List ℕ) (h1 h2 m1 m2 : List ℕ)
     → h1 ≡ hidden first_modulus (first_mask seed c) (key_of_seed seed) (error_coefficient seed c) plain
     → h2 ≡ hidden second_modulus (second_mask seed c) (key_of_seed seed) (error_coefficient seed c) plain
-    → m1 ≡ first_mask seed c → m2 ≡ second_mask seed c → ct4 ≡ encrypted seed c plain
+    → m1 ≡ first_mask seed c → m2 ≡ second_mask seed c → h1 ∷ h2 ∷ m1 ∷ m2 ∷ [] ≡ encrypted seed c plain
 unfolding encrypted
-encrypted_from seed c plain ct0 ct1 ct2 ct3 ct4 h1 h2 m1 m2 len e1 e2 e3 e4 eh1 eh2 em1 em2 =
-    e4
-    ∙ ap (λ (x : List (List ℕ)). set x 3 m2) (e3 ∙ ap (λ (x : List (List ℕ)). set x 2 m1) (e2 ∙ ap (λ (x : List (List ℕ)). set x 1 h2) e1))
-    ∙ four_written ct0 h1 h2 m1 m2 len
-    ∙ (λ i. eh1 i ∷ eh2 i ∷ em1 i ∷ em2 i ∷ [])
+encrypted_from seed c plain h1 h2 m1 m2 eh1 eh2 em1 em2 = λ i. eh1 i ∷ eh2 i ∷ em1 i ∷ em2 i ∷ []
 
 -- small errors
 pub error-small : (seed : List ℕ) (c : ℕ) (errors : List ℤ) → length errors ≡ 4096 → ((k : ℕ) → k < 4096 → get_or errors k (pos 0) ≡ error_coefficient seed c k)

@@ -1,5 +1,5 @@
 -- Four residue lists, one after another.
-use Rattle.std.proofs.Common.{◌≡◌, ℕ, zero, suc, ◌+◌, ◌<◌, List, [], ◌∷◌, length, set, refl, ap, sym, subst, ◌∙◌, arith, replicate}
+use Rattle.std.proofs.Common.{◌≡◌, ℕ, zero, suc, ◌+◌, ◌<◌, List, [], ◌∷◌, length, set, refl, sym, subst, ◌∙◌, arith, replicate}
 use Rattle.psi_residue.specs.Numbers.{first_modulus, second_modulus}
 use Rattle.psi_residue.specs.Polynomials.{IsPolynomial}
 use Rattle.psi_residue.specs.Ciphertexts.{IsCiphertext, list_at, list_modulus}
@@ -24,10 +24,6 @@ list-polynomial ct (suc zero) lt h = h.c0_second
 list-polynomial ct (suc (suc zero)) lt h = h.c1_first
 list-polynomial ct (suc (suc (suc zero))) lt h = h.c1_second
 list-polynomial ct (suc (suc (suc (suc l)))) lt h = absurd (omega arith)
-
--- all four are written
-pub four_written : (xs : List (List ℕ)) (a b c d : List ℕ) → length xs ≡ 4 → set (set (set (set xs 0 a) 1 b) 2 c) 3 d ≡ a ∷ b ∷ c ∷ d ∷ []
-four_written xs a b c d len = ap (λ (ys : List (List ℕ)). set (set (set (set ys 0 a) 1 b) 2 c) 3 d) (four xs len)
 
 -- four lists, one by one
 pub four_from : (xs : List (List ℕ)) (a b c d : List ℕ) → length xs ≡ 4 → list_at xs 0 ≡ a → list_at xs 1 ≡ b → list_at xs 2 ≡ c → list_at xs 3 ≡ d → xs ≡ a ∷ b ∷ c ∷ d ∷ []

@@ -1,6 +1,6 @@
 //! Ciphertexts as lists of residues.
-ghost use Rattle.std.specs.Prelude.{◌≡◌, ◌<◌, IfOk, slice_set};
-ghost use Rattle.psi_residue.specs.Numbers.{modulus_of};
+ghost use Rattle.std.specs.Prelude.{◌≡◌, ◌<◌, ◌∷◌, [], IfOk, slice_set};
+ghost use Rattle.psi_residue.specs.Numbers.{first_modulus, modulus_of, second_modulus};
 ghost use Rattle.psi_residue.specs.Polynomials.{IsPolynomial};
 ghost use Rattle.psi_residue.specs.Ciphertexts.{IsCiphertext, list_at, list_modulus};
 ghost use Rattle.bfv_core.specs.EncryptedLists.{zero_lists};
@@ -43,6 +43,28 @@ impl Ciphertext {
             c1_first: vec![in alloc; 0; N]?,
             c1_second: vec![in alloc; 0; N]?,
         })
+    }
+
+    /// The ciphertext of four residue lists, by their numbers. Each is 4096 residues below its modulus.
+    pub fn of(
+        c0_first: Vec<u64>,
+        c0_second: Vec<u64>,
+        c1_first: Vec<u64>,
+        c1_second: Vec<u64>,
+    ) -> Ciphertext
+        requires c0_first { IsPolynomial first_modulus c0_first.items }
+        requires c0_second { IsPolynomial second_modulus c0_second.items }
+        requires c1_first { IsPolynomial first_modulus c1_first.items }
+        requires c1_second { IsPolynomial second_modulus c1_second.items }
+        ensures lists { result ≡ c0_first.items ∷ c0_second.items ∷ c1_first.items ∷ c1_second.items ∷ [] }
+        ensures whole { IsCiphertext result }
+    {
+        Ciphertext {
+            c0_first,
+            c0_second,
+            c1_first,
+            c1_second,
+        }
     }
 
     /// Residue list number `list`, which is below 4.

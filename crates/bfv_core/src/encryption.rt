@@ -33,20 +33,16 @@ pub fn encrypt(
     ensures carries { IfOk result (λ ct. Carries 21 key.now ct m.now) }
     ensures whole { IfOk result IsCiphertext }
 {
-    let mut first = [0; N];
-    let mut second = [0; N];
-    mask(seed, c, &mut first, &mut second);
+    let mut c1_first = vec![in alloc; 0; N]?;
+    let mut c1_second = vec![in alloc; 0; N]?;
+    mask(seed, c, &mut c1_first, &mut c1_second);
     let mut errors = [0; N];
     error(seed, c, &mut errors);
-    let mut ct = Ciphertext::zero(alloc)?;
-    let mut c0 = [0; N];
-    hide(Modulus::Q1, &first, key, &errors, m, &mut c0);
-    ct.set(0, &c0);
-    hide(Modulus::Q2, &second, key, &errors, m, &mut c0);
-    ct.set(1, &c0);
-    ct.set(2, &first);
-    ct.set(3, &second);
-    Ok(ct)
+    let mut c0_first = vec![in alloc; 0; N]?;
+    hide(Modulus::Q1, &c1_first, key, &errors, m, &mut c0_first);
+    let mut c0_second = vec![in alloc; 0; N]?;
+    hide(Modulus::Q2, &c1_second, key, &errors, m, &mut c0_second);
+    Ok(Ciphertext::of(c0_first, c0_second, c1_first, c1_second))
 }
 
 // Writes -a·s + e + Δ·plain modulo `m`, with the mask a, the key s and the error e.

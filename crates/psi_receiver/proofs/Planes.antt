@@ -1,5 +1,5 @@
 -- The planes of a reply, opened one by one.
-use Rattle.std.proofs.Common.{◌≡◌, ℕ, zero, suc, ◌+◌, ◌*◌, ◌<◌, ◌≤◌, List, [], ◌∷◌, map, drop, Result, Ok, ap, subst, sym, ◌∙◌, arith, ℤ}
+use Rattle.std.proofs.Common.{◌≡◌, ℕ, zero, suc, ◌+◌, ◌*◌, List, [], ◌∷◌, map, drop, Result, Ok, ap, subst, sym, ◌∙◌, arith, ℤ}
 use Rattle.std.specs.List.{AllZip, flat_map, range_with_len}
 use Rattle.std.specs.Result.{IfOk}
 use Rattle.std.proofs.lemmas.List.Folds.{flat_map-map}

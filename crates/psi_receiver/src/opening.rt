@@ -24,9 +24,6 @@ use rayon::prelude::*;
 use std::alloc::{AllocError, Global};
 use std::thread::Threads;
 
-// The least items that a thread of its own looks up.
-const LOOKED_UP: usize = 64;
-
 /// The items that a reply to their query opens to, with their labels, by item and then by bundle.
 ///
 /// It fails, but for want of memory, exactly where an item is longer than 255 bytes (`TooLong`, which comes first), where
@@ -145,7 +142,7 @@ fn open_ciphertext(
     Ok(Slots::opened(alloc, key, &ct)?)
 }
 
-// What opened planes give for placed tags, some tags in each thread.
+// What opened planes give for placed tags, in threads where there are some thousand.
 fn open_placed<R: Threads + Sync>(
     rt: &R,
     alloc: Global,
@@ -161,7 +158,6 @@ fn open_placed<R: Threads + Sync>(
 {
     let lists = placed
         .par_iter()
-        .with_min_len(LOOKED_UP)
         .map(
             |x: &Placed| -> Result<Vec<Found>, AllocError>
                 requires { (x.now.position < bins_of_row * length counts.now) × (params.now.units ≤ 4) × (length planes.now ≡ planes_of_bundle (parameters_of params.now) * sum counts.now) }

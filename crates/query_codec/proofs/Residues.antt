@@ -77,6 +77,21 @@ list_in-polynomial bytes c l few below =
       below = λ i lt. rw (slice_index-table 4096 residue i lt) (subst (λ (m : ℕ). residue i < m) (modulus_of_list c l i few lt) (below (4096 * (4 * c + l) + i) (omega arith) (omega arith)));
     }
 
+-- a list that was read is a polynomial modulo its modulus
+pub read-polynomial : (bytes : List ℕ) (c l k : ℕ) (xs : List ℕ) → l < 4 → k ≡ 4 * c + l → xs ≡ list_in bytes k
+    → AreBelow bytes (4096 * k) (4096 * (k + 1)) → IsPolynomial (list_modulus l) xs
+read-polynomial bytes c l k xs few e read below =
+    subst (IsPolynomial (list_modulus l)) (sym (read ∙ ap (list_in bytes) e))
+    (list_in-polynomial bytes c l few (λ i low high. below i (omega arith) (omega arith)))
+
+-- four lists that were read are a ciphertext
+pub read-lists : (bytes : List ℕ) (c : ℕ) (xs0 xs1 xs2 xs3 : List ℕ) → xs0 ≡ list_in bytes (4 * c) → xs1 ≡ list_in bytes (4 * c + 1)
+    → xs2 ≡ list_in bytes (4 * c + 2) → xs3 ≡ list_in bytes (4 * c + 3) → xs0 ∷ xs1 ∷ xs2 ∷ xs3 ∷ [] ≡ ciphertext_in bytes c
+unfolding ciphertext_in
+read-lists bytes c xs0 xs1 xs2 xs3 e0 e1 e2 e3 =
+    let e : 4 * c ≡ 4 * c + 0 = omega arith in
+    (λ i. (e0 ∙ ap (list_in bytes) e) i ∷ e1 i ∷ e2 i ∷ e3 i ∷ [])
+
 -- ciphertexts, one by one
 pub ciphertexts_in-none : (bytes : List ℕ) → [] ≡ ciphertexts_in bytes 0
 unfolding ciphertexts_in

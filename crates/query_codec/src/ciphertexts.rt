@@ -10,6 +10,7 @@ ghost use Rattle.query_codec.specs.Ciphertexts.{AreBelow, AreCiphertexts, IsResi
 
 use crate::fault::CodecFault;
 use bfv_core::Ciphertext;
+use byteorder::{BigEndian, ByteOrder};
 use psi_residue::{N, Q1, Q2};
 use std::alloc::{AllocError, Global};
 
@@ -47,17 +48,27 @@ pub fn read_ciphertext(alloc: Global, bytes: &[u8], c: usize) -> Result<Cipherte
     ensures below { OnOk result (AreBelow bytes.now (4 * ring_degree * c) (4 * ring_degree * (c + 1))) }
     ensures fault { IfErr result (λ fault. (fault ≡ NoMemory) ⊎ IsResidueFault bytes.now (4 * ring_degree * c) (4 * ring_degree * (c + 1)) fault) }
 {
-    let mut ct = Ciphertext::zero(alloc)?;
-    let mut residues = [0; N];
-    for list in 0..4u8 {
-        read_list(bytes, 4 * c + list as usize, &mut residues)?;
-        ct.set(list, &residues);
-    }
-    Ok(ct)
+    let c0_first = read_list(alloc, bytes, 4 * c)?;
+    let c0_second = read_list(alloc, bytes, 4 * c + 1)?;
+    let c1_first = read_list(alloc, bytes, 4 * c + 2)?;
+    let c1_second = read_list(alloc, bytes, 4 * c + 3)?;
+    Ok(Ciphertext::of(c0_first, c0_second, c1_first, c1_second))
+}
+
+// List number `k` of the residues.
+fn read_list(alloc: Global, bytes: &[u8], k: usize) -> Result<Vec<u64>, CodecFault>
+    requires { 5 * (ring_degree * (k + 1)) ≤ length bytes.now }
+    ensures read { IfOk result (λ list. list.items ≡ list_in bytes.now k) }
+    ensures below { OnOk result (AreBelow bytes.now (ring_degree * k) (ring_degree * (k + 1))) }
+    ensures fault { IfErr result (λ fault. (fault ≡ NoMemory) ⊎ IsResidueFault bytes.now (ring_degree * k) (ring_degree * (k + 1)) fault) }
+{
+    let mut list = vec![in alloc; 0; N]?;
+    write_list(bytes, k, &mut list)?;
+    Ok(list)
 }
 
 // Writes list number `k` of the residues.
-fn read_list(bytes: &[u8], k: usize, out: &mut [u64]) -> Result<(), CodecFault>
+fn write_list(bytes: &[u8], k: usize, out: &mut [u64]) -> Result<(), CodecFault>
     requires places { length out.old ≡ ring_degree }
     requires within { 5 * (ring_degree * (k + 1)) ≤ length bytes.now }
     ensures read { OnOk result (out.new ≡ list_in bytes.now k) }
@@ -84,10 +95,8 @@ fn residue(bytes: &[u8], i: usize) -> u64
     requires { 5 * (i + 1) ≤ length bytes.now }
     ensures { result ≡ residue_in bytes.now i }
 {
-    let bytes = &bytes[RESIDUE_BYTES * i..];
-    let high = u64::from(bytes[0]) * 16777216 + u64::from(bytes[1]) * 65536;
-    let low = u64::from(bytes[2]) * 65536 + u64::from(bytes[3]) * 256 + u64::from(bytes[4]);
-    high * 256 + low
+    let start = RESIDUE_BYTES * i;
+    u64::from(bytes[start]) * (1 << 32) + u64::from(BigEndian::read_u32(&bytes[start + 1..]))
 }
 
 // The modulus of list number `k`: the lists go by the two moduli in turn.

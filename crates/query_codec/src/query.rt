@@ -60,7 +60,7 @@ pub fn write_query(
 /// the pieces one after another. The parameters are passed ones. It fails only for want of memory.
 pub fn join_query(alloc: Global, params: &Params, pieces: &[Vec<u8>]) -> Result<Vec<u8>, AllocError>
     requires { ArePassed (parameters_of params.now) }
-    ensures { IfOk result (λ body. body.items ≡ parameter_bytes (parameters_of params.now) ++ flat_map (λ piece. piece.items) pieces.now) }
+    ensures joined { IfOk result (λ body. body.items ≡ parameter_bytes (parameters_of params.now) ++ flat_map (λ piece. piece.items) pieces.now) }
 {
     let mut body = Vec::with_capacity(alloc, HEADER + CIPHERTEXT_BYTES * ciphertexts(params))?;
     body.extend_from_slice(&params.to_bytes())?;

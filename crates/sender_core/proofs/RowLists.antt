@@ -10,7 +10,7 @@ use Rattle.psi_bundle.specs.declared.member.Member.{Member}
 use Rattle.psi_bundle.specs.declared.cached.Shown.{Shown}
 use Rattle.item_slots.specs.Tags.{bins_of_row}
 use Rattle.psi_bundle.specs.Bins.{accepts, holds, bin_at, empty_bins}
-use Rattle.psi_bundle.specs.Versions.{Stamped, Row, first_fit, joined, fresh, with_bin, placed_at, changed_at, row_at, greatest_stamp}
+use Rattle.psi_bundle.specs.Versions.{Stamped, first_fit, joined, fresh, with_bin, placed_at, changed_at, row_at, greatest_stamp}
 use Rattle.sender_core.specs.declared.rows.Change.{Change}
 use Rattle.sender_core.specs.Kept.{Kept, stamped_of, row_of, rows_of, kept_row, KeepCaches}
 use Rattle.sender_core.specs.Shown.{kept_of, kept_of_row, kept_of_rows}

@@ -1,7 +1,7 @@
 -- Undo logs that grow and are rolled back.
 use Rattle.std.specs.Prelude.{◌≡◌, ℕ, ◌<◌, List, [], ◌∷◌, ◌++◌, length, take, Some, None, slice_index_or, slice_set}
 use Rattle.std.proofs.Common.{refl, sym, ap, ◌∙◌, subst, arith, Vec, Global}
-use Rattle.std.proofs.lemmas.List.{length-set, length-map, length-append, map-set, map-append, set-set, set-get_or, get_or-set_same, take-map}
+use Rattle.std.proofs.lemmas.List.{length-set, length-map, map-set, map-append, set-set, set-get_or, get_or-set_same, take-map}
 use Rattle.std.proofs.Math.Seq.{take-append_seam}
 use Rattle.std.proofs.Math.ListN.{get_or-map}
 use Rattle.psi_bundle.specs.declared.cached.Shown.{Shown}

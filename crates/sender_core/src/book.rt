@@ -88,7 +88,7 @@ impl<C: Cached + Drop> Book<C> {
 
     /// The label of a tag. None exactly where the tag is not in the map.
     pub fn label(&self, tag: &Tag) -> Option<&Label>
-        ensures { option_copied result ≡ fin.get (version_of self.now).labels tag.now }
+        ensures label { option_copied result ≡ fin.get (version_of self.now).labels tag.now }
     {
         self.state.labels.get(tag)
     }
@@ -104,8 +104,9 @@ impl<C: Cached + Drop> Book<C> {
     /// Puts a tag with its label: it is the step of that call, and its entry is the next. Condition: the label has
     /// `10·units` bytes.
     ///
-    /// `JournalFull` comes exactly where the journal has 2^20 entries, before anything else is looked at. After a
-    /// refusal the book is as before, but for the room that it has for entries. A bundle that changes loses its cache.
+    /// `JournalFull` comes exactly where the journal has 2^20 entries, before anything else is looked at, and the book stays
+    /// as it is. After `NoMemory` it is as before, but for the room that it has for entries. A bundle that changes loses its
+    /// cache.
     pub fn put(&mut self, alloc: Global, tag: Tag, label: Label) -> Result<Placed<Put>, Refusal>
         requires { HasLabelLength self.old.parameters label }
         ensures stepped { IfOk result (λ placed. IsStep self.old self.new (Call.Put tag label) (answer_of_put placed.answer)) }
@@ -124,8 +125,9 @@ impl<C: Cached + Drop> Book<C> {
 
     /// Takes a tag out of the set: it is the step of that call, and its entry is the next.
     ///
-    /// `JournalFull` comes exactly where the journal has 2^20 entries, before anything else is looked at. After a
-    /// refusal the book is as before, but for the room that it has for entries. A bundle that changes loses its cache.
+    /// `JournalFull` comes exactly where the journal has 2^20 entries, before anything else is looked at, and the book stays
+    /// as it is. After `NoMemory` it is as before, but for the room that it has for entries. A bundle that changes loses its
+    /// cache.
     pub fn drop_tag(&mut self, alloc: Global, tag: Tag) -> Result<Placed<DropAnswer>, Refusal>
         ensures stepped { IfOk result (λ placed. IsStep self.old self.new (Call.Drop tag) (answer_of_drop placed.answer)) }
         ensures place { IfOk result (λ placed. placed.place ≡ length self.old.journal) }
@@ -144,8 +146,8 @@ impl<C: Cached + Drop> Book<C> {
     /// Shows the bundles as they stand, with their caches: it is the step of an Ask, and its entry is the next, whose
     /// place the snapshot has.
     ///
-    /// `JournalFull` comes exactly where the journal has 2^20 entries, before anything else is looked at. After a
-    /// refusal the book is as before, but for the room that it has for entries.
+    /// `JournalFull` comes exactly where the journal has 2^20 entries, before anything else is looked at, and the book stays
+    /// as it is. After `NoMemory` it is as before, but for the room that it has for entries.
     pub fn ask(&mut self, alloc: Global) -> Result<Placed<Snapshot<C>>, Refusal>
         ensures stepped { OnOk result (IsStep self.old self.new Call.Ask Seen) }
         ensures shown { IfOk result (λ placed. placed.answer ≡ record { place = length self.old.journal; rows = self.old.rows }) }
@@ -182,8 +184,9 @@ impl<C: Cached + Drop> Book<C> {
     /// that has no bundles by now stays so. Conditions: the view is of this book's history, and `packed` is the first fit
     /// of its members, as `pack_row` of the crate `psi_packer` gives it.
     ///
-    /// `JournalFull` comes exactly where the journal has 2^20 entries, before anything else is looked at. After a
-    /// refusal the book is as before, but for the room that it has for entries. A row that is packed has no caches.
+    /// `JournalFull` comes exactly where the journal has 2^20 entries, before anything else is looked at, and the book stays
+    /// as it is. After `NoMemory` it is as before, but for the room that it has for entries. A row that is packed has no
+    /// caches.
     pub fn repack(
         &mut self,
         alloc: Global,

@@ -15,5 +15,5 @@ returns-clause-query g c =
     ap (flat_map (λ piece. piece.items)) c.deref-2.ensures.value ∙ c.in_ok-pieces.ensures ∙ ap (λ (xs : List Placed). ciphertexts_bytes (query_ciphertexts p c.args.seed.now xs)) c.deref.ensures.value in (
       placed,
       c.in_ok-placed.ensures.placed,
-      pieces-body p c.args.seed.now placed (flat_map (λ piece. piece.items) c.deref-2.result.now) c.in_ok-join_query.field-0.items told c.in_ok-join_query.ensures,
+      pieces-body p c.args.seed.now placed (flat_map (λ piece. piece.items) c.deref-2.result.now) c.in_ok-join_query.field-0.items told c.in_ok-join_query.ensures.joined,
     )

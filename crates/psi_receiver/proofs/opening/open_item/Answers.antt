@@ -1,9 +1,9 @@
-use Rattle.std.proofs.Common.{◌≡◌, ◌+◌, ◌/◌, ◌%◌, ◌++◌, ◌∷◌, [], ℕ, List, ◌-◌, length, drop, get_or, take, ap, sym, ◌∙◌, arith}
+use Rattle.std.proofs.Common.{◌≡◌, ◌+◌, ◌/◌, ◌%◌, ◌++◌, ◌∷◌, [], ℕ, ◌-◌, length, drop, get_or, take, ap, sym, ◌∙◌, arith}
 use Rattle.std.specs.List.{sum}
 use Rattle.std.proofs.lemmas.List.{get_or_default}
 use Rattle.noise_ledger.specs.Verdicts.{parameters_of}
 use Rattle.query_codec.proofs.QueryBodies.{all_behind}
-use Rattle.psi_receiver.specs.Openings.{Reply, opened_at, opens_in, opened_label}
+use Rattle.psi_receiver.specs.Openings.{Reply, opens_in, opened_label}
 use Rattle.psi_receiver.proofs.Opened.{bundle-last, planes-within, opens-told, label-told}
 use Rattle.psi_receiver.proofs.Steps.{opened_below, opened_below-none, opened_below-yes, opened_below-no, opened_below-all}
 use Rattle.psi_receiver.proofs.opening.open_item.Goals as goal

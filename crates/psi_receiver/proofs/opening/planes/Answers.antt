@@ -1,5 +1,4 @@
 use Rattle.std.proofs.Common.{◌+◌, ◌*◌, ◌≤◌, arith}
-use Rattle.std.specs.List.{sum}
 use Rattle.std.proofs.lemmas.Nat.{mul-le}
 use Rattle.query_codec.proofs.ReplyBodies.{few_bundles}
 use Rattle.psi_receiver.proofs.opening.planes.Goals as goal

@@ -1,4 +1,4 @@
-use Rattle.std.proofs.Common.{◌∙◌, slice_index_or}
+use Rattle.std.proofs.Common.{◌∙◌}
 use Rattle.std.specs.List.{fold}
 use Rattle.psi_bundle.specs.Versions.{placed_at}
 use Rattle.sender_core.specs.Kept.{rows_of}

@@ -1,4 +1,4 @@
-use Rattle.std.proofs.Common.{◌∙◌, arith}
+use Rattle.std.proofs.Common.{arith}
 use Rattle.sender_core.proofs.UndoLemmas.{appended-is, back-appended, back-same}
 use Rattle.sender_core.proofs.undo.append.Goals as goal
 

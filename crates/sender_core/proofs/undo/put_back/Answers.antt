@@ -1,8 +1,7 @@
-use Rattle.std.proofs.Common.{◌∙◌, ap, sym, refl, arith, List, length, ◌<◌, Option}
+use Rattle.std.proofs.Common.{◌∙◌, ap, sym, refl, arith, length, ◌<◌, Option}
 use Rattle.std.proofs.lemmas.List.{length-map}
 use Rattle.psi_bundle.specs.declared.cached.Shown.{Shown}
 use Rattle.sender_core.specs.Shown.{kept_of_row, kept_of_rows}
-use Rattle.sender_core.specs.Kept.{Kept}
 use Rattle.sender_core.specs.UndoLogs.{rows_before}
 use Rattle.sender_core.proofs.UndoLemmas.{undone-replaced, undone-appended}
 use Rattle.sender_core.proofs.undo.put_back.Goals as goal

@@ -4,7 +4,7 @@ use Rattle.psi_bundle.specs.declared.cached.Shown.{Shown}
 use Rattle.psi_bundle.specs.declared.history.Entry.{Entry}
 use Rattle.psi_bundle.specs.declared.history.Call.TheVariants as Call
 use Rattle.psi_bundle.specs.declared.history.Answer.TheVariants.{Added, Full}
-use Rattle.sender_core.specs.Kept.{Contents, bundles_of, version_of}
+use Rattle.sender_core.specs.Kept.{bundles_of, version_of}
 use Rattle.sender_core.specs.States.{contents_of}
 use Rattle.sender_core.specs.Shown.{kept_of_rows}
 use Rattle.sender_core.proofs.Counting.{planes-are, cells-are, few-after}

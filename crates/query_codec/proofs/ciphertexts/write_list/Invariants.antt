@@ -1,6 +1,6 @@
 use Rattle.std.proofs.Common.{◌≡◌, ◌<◌, ◌+◌, ◌*◌, ℕ, get_or}
 use Rattle.query_codec.specs.Ciphertexts.{residue_in, AreBelow}
-use Rattle.query_codec.proofs.ciphertexts.read_list.Given as goal
+use Rattle.query_codec.proofs.ciphertexts.write_list.Given as goal
 
 abbrev pub invariant-loop-i : goal.invariant-loop-i
 invariant-loop-i l = record {
