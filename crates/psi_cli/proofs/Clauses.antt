@@ -44,6 +44,7 @@ use Rattle.psi_cli.specs.Runs.{GivesNone, GivesNoPlain, IsRefused, Judged, Runs,
 use Rattle.psi_cli.specs.Statuses.{IsBadOrFails, IsCrowdedOrFails, IsDoneOrFails, IsEmptyNumber, IsReadWhole, IsRefusedOrFails, IsStatus, IsUnreadStatus, number_of}
 use Rattle.psi_cli.specs.Worlds.{Given, Held, NoReadFailed, ReadFailed, World, ends_of, IsFlushedSo}
 use Rattle.psi_cli.proofs.QueryOpenings.{answers-open}
+use Rattle.psi_cli.proofs.Shown.{spellable}
 
 -- ---- statuses by their numbers
 
@@ -300,10 +301,6 @@ demo_empty number workers old new n runs (inl e) = absurd (demo_so number worker
 demo_empty number workers old new n runs (inr (inl e)) = absurd (demo_so number workers old new n runs status.BadInput e)
 demo_empty number workers old new n runs (inr (inr (inl e))) = absurd (demo_so number workers old new n runs status.ReadFault e)
 demo_empty number workers old new n runs (inr (inr (inr e))) = ap (λ (h : Held). h.written) (demo_so number workers old new n runs status.NoMemory e)
-
--- frames of a table are spellable
-spellable : (table : Table) (fs : List Frame) → All (IsFrame table) fs → All IsSpellable fs
-spellable table fs each = λ k d lt. (each k d lt).spellable
 
 -- the last of some frames
 behind : {A : Type 0} (P : A → Type 0) (gs hs fs : List A) → fs ≡ gs ++ hs → All P fs → All P hs

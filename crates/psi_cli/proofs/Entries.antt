@@ -18,8 +18,8 @@ use Rattle.psi_frames.specs.declared.request.Request.{Request}
 use Rattle.psi_frames.specs.Requests.{call_of}
 use Rattle.psi_frames.specs.Served.{Exchange, IsRecorded, IsServed, Sent, all_places, exchanges, from_or_zero, place_of, places_in, places_of_round, requests_of}
 use Rattle.psi_frames.proofs.Following.{before}
-use Rattle.psi_serve.proofs.Places.{tells_answer}
-use Rattle.psi_serve.proofs.Renumbered.{places-every, requests-each, rounds-below}
+use Rattle.psi_frames.proofs.Placed.{places-every, tells_answer}
+use Rattle.psi_serve.proofs.Renumbered.{requests-each, rounds-below}
 use Rattle.psi_cli.proofs.Fitting.{IsTaken, taken-call}
 
 -- ---- places

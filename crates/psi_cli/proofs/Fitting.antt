@@ -18,6 +18,7 @@ use Rattle.psi_frames.specs.Requests.{ask_code, ask_request, asks_behind, asks_o
 use Rattle.psi_frames.specs.Rounds.{request_rounds}
 use Rattle.psi_frames.specs.Served.{requests_of}
 use Rattle.psi_frames.proofs.Each.{each-append}
+use Rattle.psi_frames.proofs.RoundRequests.{put-fits}
 use Rattle.psi_receiver.proofs.TagBytes.{tag_of-bytes}
 
 -- a request whose call a set of these parameters takes, with a tag and a label of bytes
@@ -46,23 +47,13 @@ unless : (p : Parameters) (o : Option ℕ) (f : Frame) (r : Request) → (o ≡ 
 unless p None f r h = h refl
 unless p (Some code) f r h = tt
 
--- a Put without a code has a label of the set's length
-label_fits : (p : Parameters) (body : List ℕ) → put_code p body ≡ None → HasLabelLength p (label_of body)
-label_fits p body none = elim (cases_Bool (has_item body)) [
-  | inl item ↦ elim (cases_Bool (has_label_length p (label_of body))) [
-    | inl fits ↦ grind (arith, nat_tests)
-    | inr other ↦ absurd (let some = rw (item, other) at none in cc)
-  ]
-  | inr other ↦ absurd (let some = rw other at none in cc)
-]
-
 -- bytes behind others are bytes
 bytes-behind : (n : ℕ) (body : List ℕ) → AreBytes body → AreBytes (drop n body)
 bytes-behind n body h i = subst (λ (b : ℕ). b < 256) (sym (get_or-drop n body i 0)) (h (n + i))
 
 put-taken : (p : Parameters) (f : Frame) → AreBytes f.body → IsTaken p (put_request p f)
 put-taken p f h = unless p (put_code p f.body) f (request.Put f.session f.number (tag_of (item_of f.body)) (label_of f.body))
-    (λ none. (label_fits p f.body none, tag_of-bytes (item_of f.body), bytes-behind (item_end f.body) f.body h))
+    (λ none. (put-fits p f.body none, tag_of-bytes (item_of f.body), bytes-behind (item_end f.body) f.body h))
 
 drop-taken : (p : Parameters) (f : Frame) → IsTaken p (drop_request f)
 drop-taken p f = unless p (drop_code f.body) f (request.Drop f.session f.number (tag_of (item_of f.body))) (λ none. tag_of-bytes (item_of f.body))

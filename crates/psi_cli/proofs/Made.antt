@@ -63,15 +63,6 @@ body_refused p items tags body fault same placed some = record {
   refused = λ reply. let none = no_fault-IsReply p body reply in absurd (cc);
 }
 
--- the query of tags has the length of a query
-whole-query : (p : Parameters) (seed : List ℕ) (placed : List Placed) → All IsCiphertext (query_ciphertexts p seed placed)
-unfolding query_ciphertexts query_ciphertext
-whole-query p seed placed = All-map IsCiphertext (query_ciphertext p.capacity seed placed) (range_with_len 0 (p.rows * p.capacity)) (λ k d lt. encrypted-ciphertext seed _ _)
-
-pub query-size : (p : Parameters) (seed : List ℕ) (tags : List (List ℕ)) (body : List ℕ) → IsQueryOf p seed tags body → length body ≡ query_length p
-query-size p seed tags body query =
-    ap length query.2 ∙ (IsQuery-written p (query_ciphertexts p seed query.0) (whole-query p seed query.0) (length-query p seed query.0)).size
-
 -- ---- the file of `open`
 
 -- a file has one answer at most

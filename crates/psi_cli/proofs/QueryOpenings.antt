@@ -24,14 +24,10 @@ use Rattle.psi_receiver.specs.Queries.{query_ciphertexts}
 use Rattle.psi_receiver.proofs.Encryptions.{query-read}
 use Rattle.psi_receiver.proofs.Joined.{opened-found}
 use Rattle.psi_receiver.proofs.Members.{item-found, unfound-missing}
+use Rattle.query_pool.proofs.Telling.{replay-parameters}
 use Rattle.psi_cli.specs.QueryAnswers.{AnswersOpen, Asks, OpensToFound, TellOf, TellsOfItems, opened_by, set_at}
 use Rattle.psi_cli.proofs.Entries.{entries-taken}
 use Rattle.psi_cli.proofs.Fitting.{rounds-taken}
-
--- no entry changes the parameters
-same-parameters : (v : Version) (es : List Entry) → (replay v es).parameters ≡ v.parameters
-same-parameters v [] = refl
-same-parameters v (e ∷ es) = same-parameters (after v e) es ∙ step-parameters v e.call
 
 -- a set that holds bytes, is sound, and has these parameters
 record IsKnown (p : Parameters) (v : Version) : Type 0 where
@@ -42,7 +38,7 @@ record IsKnown (p : Parameters) (v : Version) : Type 0 where
 -- the sets at the places of a history
 known : (p : Parameters) (history : List Entry) → ArePassed p → IsSound (empty_version p) → All (λ x. IsFitting p x.call × HasBytes x.call) history → (k : ℕ) → IsKnown p (set_at p history k)
 known p history passed begins taken k = record {
-  parameters = same-parameters (empty_version p) (take k history);
+  parameters = replay-parameters (empty_version p) (take k history);
   sound = sound-version_at (empty_version p) history (record { some_rows = passed.ranges.some_rows; some_members = passed.ranges.some_members }) begins (λ i d lt. (taken i d lt).0) k;
   bytes = versions-bytes (empty_version p) history (empty-bytes p) (λ i d lt. (taken i d lt).1) k;
 }

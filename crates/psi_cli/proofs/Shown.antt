@@ -38,7 +38,8 @@ same_frames fs gs each_f each_g e =
     let none = no_frames front.0 (sym front.2) in
     sym (front.1 ∙ ap (λ (hs : List Frame). fs ++ hs) none ∙ append-nil fs)
 
-spellable : (table : Table) (fs : List Frame) → All (IsFrame table) fs → All IsSpellable fs
+-- frames of a table are spellable
+pub spellable : (table : Table) (fs : List Frame) → All (IsFrame table) fs → All IsSpellable fs
 spellable table fs each = λ k d lt. (each k d lt).spellable
 
 -- bytes are whole frames to the end in one way

@@ -31,15 +31,6 @@ demo-passed = record {
   little_noise = omega arith;
 }
 
--- the query of tags has the length of a query
-whole-query : (p : Parameters) (seed : List ℕ) (placed : List Placed) → All IsCiphertext (query_ciphertexts p seed placed)
-unfolding query_ciphertexts query_ciphertext
-whole-query p seed placed = All-map IsCiphertext (query_ciphertext p.capacity seed placed) (range_with_len 0 (p.rows * p.capacity)) (λ k d lt. encrypted-ciphertext seed _ _)
-
-pub query-size : (p : Parameters) (seed : List ℕ) (tags : List (List ℕ)) (body : List ℕ) → IsQueryOf p seed tags body → length body ≡ query_length p
-query-size p seed tags body query =
-    ap length query.2 ∙ (IsQuery-written p (query_ciphertexts p seed query.0) (whole-query p seed query.0) (length-query p seed query.0)).size
-
 -- one more of a run
 pub pushed : {A : Type 0} (old loop new : List A) (f : ℕ → A) (first step k : ℕ) → loop ≡ old ++ run f first step k → new ≡ loop ++ f (first + step * k) ∷ [] → new ≡ old ++ run f first step (k + 1)
 pushed {A} old loop new f first step k was more =

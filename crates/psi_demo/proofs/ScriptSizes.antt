@@ -11,6 +11,7 @@ use Rattle.psi_frames.specs.Frames.{ask_kind, drop_kind, go_kind, put_kind}
 use Rattle.psi_frames.specs.Requests.{ask_request, asks_behind, count_asks, counted, drop_code, drop_request, is_ask, item_of, label_of, put_code, put_request, repack_code, repack_request, request_of, requests_from, unless_coded}
 use Rattle.psi_frames.specs.Rounds.{request_rounds}
 use Rattle.psi_frames.specs.Served.{requests_of}
+use Rattle.psi_frames.proofs.RoundRequests.{no_ask-unless}
 use Rattle.psi_demo.specs.Items.{demo_parameters, run}
 use Rattle.psi_demo.specs.Laws.{ScriptsAskThrice}
 use Rattle.psi_demo.specs.Scripts.{Unnumbered, asking, drop, first_round, go_frame, numbered, numbered_frame, packing, put, rounds_frames, second_round, third_round}
@@ -32,10 +33,6 @@ ask-counted asks (request.Drop session number tag) e = absurd (cc)
 ask-counted asks (request.Ask session number query) e = refl
 ask-counted asks (request.Repack session number row) e = absurd (cc)
 ask-counted asks (request.Bad session number code) e = absurd (cc)
-
-no_ask-unless : (o : Option ℕ) (f : Frame) (r : Request) → is_ask r ≡ false → is_ask (unless_coded o f r) ≡ false
-no_ask-unless None f r e = e
-no_ask-unless (Some code) f r e = refl
 
 ask-kind : (p : Parameters) (f : Frame) → is_ask (request_of p f) ≡ true → nat_eq f.kind ask_kind ≡ true
 unfolding request_of

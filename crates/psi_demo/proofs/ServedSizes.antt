@@ -27,11 +27,11 @@ use Rattle.psi_frames.specs.Requests.{call_of, code_of, count_asks, is_ask, quer
 use Rattle.psi_frames.specs.Served.{Exchange, IsEvaluated, IsRecorded, Sent, address_of_reply, address_of_request, answer_of, body_of, exchanges, from_or_zero, numbered, place_of, requests_of, text_of}
 use Rattle.psi_frames.proofs.FrameLaws.{length-frame}
 use Rattle.psi_frames.proofs.Following.{seconds-numbered}
-use Rattle.psi_frames.proofs.Lanes.{seconds}
+use Rattle.psi_frames.proofs.Lanes.{paired, seconds}
 use Rattle.psi_demo.specs.Items.{demo_parameters}
 use Rattle.psi_demo.specs.Laws.{IsSoundAt, ServedTextsAreShort}
 use Rattle.psi_demo.proofs.ReplyFrames.{sent-body, sent-bytes, sent_frame}
-use Rattle.psi_demo.proofs.ServedTexts.{is-reply, small-counts}
+use Rattle.psi_demo.proofs.ServedTexts.{is-reply}
 
 -- ---- an answer goes to an ask
 
@@ -164,17 +164,14 @@ short-by history e (reply.Refused code) is sound legal coded recorded evaluated 
 
 -- ---- all of them
 
-exchanged : List (ℕ × Request) → List Sent → List Exchange
-exchanged ns sents = map (λ e. record { round = e.0.0; request = e.0.1; reply = e.1.reply }) (zip ns sents)
-
 each-short : (history : List Entry) (es : List Exchange) → ((k : ℕ) → IsSoundAt history k) → IsLegal (empty_version demo_parameters) history
     → AllByRecursion (λ e. (code : ℕ) → code_of e.request ≡ Some code → e.reply ≡ reply.Refused code) es → AllByRecursion (IsRecorded history) es
     → AllByRecursion (IsEvaluated demo_parameters (empty_version demo_parameters) history) es → AllByRecursion IsShort es
 each-short history [] sound legal coded recorded evaluated = tt
 each-short history (e ∷ es) sound legal coded recorded evaluated = (short-by history e e.reply refl sound legal coded.0 recorded.0 evaluated.0, each-short history es sound legal coded.1 recorded.1 evaluated.1)
 
-text-size : (ns : List (ℕ × Request)) (sents : List Sent) → length ns ≡ length sents → AllByRecursion IsShort (exchanged ns sents) → length (text_of sents) ≤ 35 * length ns + 5242874 * count_asks (seconds ns)
-unfolding exchanged IsShort
+text-size : (ns : List (ℕ × Request)) (sents : List Sent) → length ns ≡ length sents → AllByRecursion IsShort (paired ns sents) → length (text_of sents) ≤ 35 * length ns + 5242874 * count_asks (seconds ns)
+unfolding IsShort
 text-size [] [] same each = omega arith
 text-size [] (s ∷ ss) same each = absurd (omega (arith, same))
 text-size (n ∷ ns) [] same each = omega arith
@@ -194,7 +191,6 @@ text-size (n ∷ ns) (s ∷ ss) same each =
     scaled false = omega arith
 
 pub short-texts : ServedTextsAreShort
-unfolding exchanged
 short-texts history rounds sents sound served =
     let ns = numbered rounds in
     let es = exchanges rounds sents in

@@ -21,7 +21,9 @@ use Rattle.psi_frames.specs.Requests.{query_of}
 use Rattle.psi_frames.specs.Served.{Exchange, IsEvaluated, Sent, address_of_reply, address_of_request, body_of, exchanges, numbered, place_of, requests_of, text_of}
 use Rattle.psi_frames.proofs.FrameLaws.{length-frame}
 use Rattle.psi_frames.proofs.Following.{seconds-numbered}
+use Rattle.psi_frames.proofs.Lanes.{paired}
 use Rattle.psi_receiver.proofs.Replies.{all-evaluated, length-evaluated}
+use Rattle.psi_receiver.proofs.Joined.{small-counts}
 use Rattle.psi_demo.specs.declared.fault.SumFault.TheVariants as sum
 use Rattle.psi_demo.specs.Items.{demo_parameters}
 use Rattle.psi_demo.specs.Laws.{HasReplyBody, IsSoundAt, RepliesAreCounted, ServedBodiesAreReplies, ShortTextsFit}
@@ -41,19 +43,6 @@ short-fit (s ∷ ss) short =
     All-cons (λ (t : Sent). answer_fits t.reply) s ss (omega (arith, short, size, body, same, whole)) (short-fit ss (omega (arith, short, whole)))
 
 -- ---- what a sound set answers
-
-pub small-counts : (p : Parameters) (rows : List Row) (i : ℕ) → IsWithinLimits p rows → get_or (bundle_counts rows) i 0 < 65536
-small-counts p rows i limits =
-    elim (cases_lt i (length (bundle_counts rows))) [
-      | inl lt ↦
-          let part = sum_by_more_le (λ (n : ℕ). n) (bundle_counts rows) i 0 lt in
-          let whole : sum (bundle_counts rows) ≤ 64 = few (sum (bundle_counts rows)) p.units limits.0 in
-          omega (arith, part, whole)
-      | inr le ↦ rw (get_or_past (bundle_counts rows) i 0 le) (omega arith)
-    ]
-  where
-    few : (n m : ℕ) → n * (1 + m) ≤ 64 → n ≤ 64
-    few n m le = omega (arith, le)
 
 -- what such a set answers is a reply body
 pub is-reply : (v : Version) (query : List (List (List ℕ))) → v.parameters ≡ demo_parameters → IsSound v → IsReply demo_parameters (reply_body demo_parameters v.rows query)
@@ -87,12 +76,8 @@ evaluated-body history e sound evaluated body tells =
     subst (IsReply demo_parameters) (sym (evaluated place.0 body place.1 tells)) (is-reply v (query_of e.request) set.parameters set.sound)
 
 -- replies to requests, one by one
-exchanged : List (ℕ × Request) → List Sent → List Exchange
-exchanged ns sents = map (λ e. record { round = e.0.0; request = e.0.1; reply = e.1.reply }) (zip ns sents)
-
 bodies-each : (history : List Entry) (ns : List (ℕ × Request)) (sents : List Sent) → length ns ≡ length sents → ((place : ℕ) → IsSoundAt history place)
-    → AllByRecursion (IsEvaluated demo_parameters (empty_version demo_parameters) history) (exchanged ns sents) → AllByRecursion HasReplyBody sents
-unfolding exchanged
+    → AllByRecursion (IsEvaluated demo_parameters (empty_version demo_parameters) history) (paired ns sents) → AllByRecursion HasReplyBody sents
 bodies-each history ns [] size sound each = tt
 bodies-each history [] (s ∷ ss) size sound each = absurd (omega (arith, size))
 bodies-each history (n ∷ ns) (s ∷ ss) size sound each =
@@ -100,7 +85,6 @@ bodies-each history (n ∷ ns) (s ∷ ss) size sound each =
     ((λ body tells. evaluated-body history e sound each.0 body tells), bodies-each history ns ss (omega (arith, size)) sound each.1)
 
 pub served-bodies : ServedBodiesAreReplies
-unfolding exchanged
 served-bodies history rounds sents sound served =
     let ns = numbered rounds in
     let requests = ap length (seconds-numbered 0 rounds) in

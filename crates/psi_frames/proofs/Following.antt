@@ -1,5 +1,5 @@
 -- The places of the one-thread sender's exchanges follow on, round by round.
-use Rattle.std.specs.Prelude.{◌≡◌, ℕ, ◌+◌, ◌-◌, ◌<◌, ◌≤◌, min, Bool, true, false, nat_eq, nat_lt, List, [], ◌∷◌, ◌++◌, length, map, filter, Option, Some, None, if◌then◌else◌}
+use Rattle.std.specs.Prelude.{◌≡◌, ℕ, ◌+◌, ◌-◌, ◌<◌, ◌≤◌, min, true, false, nat_eq, nat_lt, List, [], ◌∷◌, ◌++◌, length, map, Option, Some, None}
 use Rattle.std.specs.List.{AllByRecursion, enumerate_from, flat_map, range_with_len}
 use Rattle.std.proofs.Common.{refl, sym, ap, ◌∙◌, subst, arith, length-append, eq-eqb}
 use mathlib.Core.Logic.{dite}
@@ -8,14 +8,14 @@ use Rattle.std.proofs.lemmas.Bool.{lt-ltb}
 use Rattle.std.proofs.lemmas.Bool.Decides.{nat_tests}
 use Rattle.std.proofs.lemmas.List.{map-append, append-nil}
 use Rattle.std.proofs.lemmas.List.FromFn.{length-range_with_len}
-use Rattle.std.proofs.lemmas.List.Elements.{filter_map-append, filter-append}
 use Rattle.psi_residue.specs.Parameters.{Parameters}
 use Rattle.psi_bundle.specs.declared.history.Call.{Call}
 use Rattle.psi_bundle.specs.Versions.{Version}
 use Rattle.psi_frames.specs.declared.request.Request.{Request}
-use Rattle.psi_frames.specs.Served.{Exchange, requests_of, place_of, places_in, places_of_round, is_uncoded_in, uncoded_of_round, journal_limit}
+use Rattle.psi_frames.specs.Served.{Exchange, requests_of, place_of, places_in, places_of_round, uncoded_of_round, journal_limit}
 use Rattle.psi_frames.specs.OneLane.{call_on, reply_by, lane_next, lane_history}
 use Rattle.psi_frames.proofs.Each.{each-weaker, each-both, each-append}
+use Rattle.psi_frames.proofs.Placed.{places-append, uncoded-append}
 use Rattle.psi_frames.proofs.Turns.{place-reply, count-behind}
 use Rattle.psi_frames.proofs.Lanes.{seconds, lane, lane_end, lane-append, count-end, places-kept, places-others, uncoded, length-history, uncoded-kept, uncoded-others}
 
@@ -57,19 +57,13 @@ abbrev pub FollowsFrom : ℕ → ℕ → List Exchange → Type 0
 FollowsFrom base k es =
     places_of_round k es ≡ range_with_len (base + length (before k es)) (min (uncoded_of_round k es) (journal_limit - (base + length (before k es))))
 
-places-join : (keep : ℕ → Bool) (xs ys : List Exchange) → places_in keep (xs ++ ys) ≡ places_in keep xs ++ places_in keep ys
-places-join keep xs ys = filter_map-append (λ (e : Exchange). if keep e.round then place_of e.reply else None) xs ys
-
-uncoded-join : (k : ℕ) (xs ys : List Exchange) → uncoded_of_round k (xs ++ ys) ≡ uncoded_of_round k xs + uncoded_of_round k ys
-uncoded-join k xs ys = ap length (filter-append (is_uncoded_in k) xs ys) ∙ length-append (filter (is_uncoded_in k) xs) (filter (is_uncoded_in k) ys)
-
 -- the first round, and then others
 follow-here : (base k m u : ℕ) (xs ys : List Exchange) → places_of_round k xs ≡ range_with_len base m → places_of_round k ys ≡ [] → before k xs ≡ [] → before k ys ≡ []
     → uncoded_of_round k xs ≡ u → uncoded_of_round k ys ≡ 0 → m ≡ min u (journal_limit - base) → FollowsFrom base k (xs ++ ys)
 follow-here base k m u xs ys here none early late mine theirs number =
-    let places = places-join (nat_eq k) xs ys ∙ (λ i. here i ++ none i) ∙ append-nil (range_with_len base m) in
-    let first : length (before k (xs ++ ys)) ≡ 0 = ap length (places-join (λ round. nat_lt round k) xs ys ∙ (λ i. early i ++ late i)) in
-    let all : uncoded_of_round k (xs ++ ys) ≡ u = uncoded-join k xs ys ∙ omega (arith, mine, theirs) in
+    let places = places-append (nat_eq k) xs ys ∙ (λ i. here i ++ none i) ∙ append-nil (range_with_len base m) in
+    let first : length (before k (xs ++ ys)) ≡ 0 = ap length (places-append (λ round. nat_lt round k) xs ys ∙ (λ i. early i ++ late i)) in
+    let all : uncoded_of_round k (xs ++ ys) ≡ u = uncoded-append k xs ys ∙ omega (arith, mine, theirs) in
     let start : base ≡ base + length (before k (xs ++ ys)) = omega (arith, first) in
     let count : m ≡ min (uncoded_of_round k (xs ++ ys)) (journal_limit - (base + length (before k (xs ++ ys)))) = omega (arith, first, all, number) in
     places ∙ (λ i. range_with_len (start i) (count i))
@@ -78,10 +72,10 @@ follow-here base k m u xs ys here none early late mine theirs number =
 follow-later : (base next k m : ℕ) (xs ys : List Exchange) → places_of_round k xs ≡ [] → length (before k xs) ≡ m → uncoded_of_round k xs ≡ 0 → next ≡ base + m
     → FollowsFrom next k ys → FollowsFrom base k (xs ++ ys)
 follow-later base next k m xs ys none early mine moved follows =
-    let places = places-join (nat_eq k) xs ys ∙ (λ i. none i ++ places_of_round k ys) in
+    let places = places-append (nat_eq k) xs ys ∙ (λ i. none i ++ places_of_round k ys) in
     let first : length (before k (xs ++ ys)) ≡ m + length (before k ys) =
-    ap length (places-join (λ round. nat_lt round k) xs ys) ∙ length-append (before k xs) (before k ys) ∙ omega (arith, early) in
-    let all : uncoded_of_round k (xs ++ ys) ≡ uncoded_of_round k ys = uncoded-join k xs ys ∙ omega (arith, mine) in
+    ap length (places-append (λ round. nat_lt round k) xs ys) ∙ length-append (before k xs) (before k ys) ∙ omega (arith, early) in
+    let all : uncoded_of_round k (xs ++ ys) ≡ uncoded_of_round k ys = uncoded-append k xs ys ∙ omega (arith, mine) in
     let start : next + length (before k ys) ≡ base + length (before k (xs ++ ys)) = omega (arith, first, moved) in
     places ∙ follows ∙ (λ i. range_with_len (start i) (min (sym all i) (journal_limit - start i)))
 
@@ -173,7 +167,7 @@ module _ (p : Parameters) (v : Version) (j : ℕ) (round : List Request) (rounds
       let early = places-others p v (of_round j round) (λ k. nat_lt k j) (each-of_round (λ k. nat_lt k j ≡ false) j round (grind (arith, nat_tests))) in
       let late = places-others p (middle p v j round rounds) (numbered_from (j + 1) rounds) (λ k. nat_lt k j)
       (each-weaker (λ n. j + 1 ≤ n.0) (λ n. nat_lt n.0 j ≡ false) (λ n le. grind (arith, nat_tests, le)) (numbered_from (j + 1) rounds) later) in
-      let none : length (before j both_parts) ≡ 0 = ap length (places-join (λ k. nat_lt k j) (first_part p v j round rounds) (last_part p v j round rounds) ∙ (λ i. early i ++ late i)) in
+      let none : length (before j both_parts) ≡ 0 = ap length (places-append (λ k. nat_lt k j) (first_part p v j round rounds) (last_part p v j round rounds) ∙ (λ i. early i ++ late i)) in
       let same : length (before e.round both_parts) ≡ 0 = ap (λ (k : ℕ). length (before k both_parts)) h.0 ∙ none in
       let far = h.1 n place in
       omega (arith, same, far)
@@ -182,7 +176,7 @@ module _ (p : Parameters) (v : Version) (j : ℕ) (round : List Request) (rounds
   behind-last e h n place =
       let first = before-first p v j round rounds e.round (omega (arith, h.0)) in
       let all : length (before e.round both_parts) ≡ made p v j round rounds + length (before e.round (last_part p v j round rounds)) =
-      ap length (places-join (λ k. nat_lt k e.round) (first_part p v j round rounds) (last_part p v j round rounds))
+      ap length (places-append (λ k. nat_lt k e.round) (first_part p v j round rounds) (last_part p v j round rounds))
       ∙ length-append (before e.round (first_part p v j round rounds)) (before e.round (last_part p v j round rounds)) ∙ omega (arith, first) in
       let far = h.1 n place in
       let moved = count-middle p v j round rounds in

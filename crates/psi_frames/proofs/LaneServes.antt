@@ -28,6 +28,7 @@ use Rattle.psi_frames.specs.Requests.{call_of, code_of, is_repack, journal_full,
 use Rattle.psi_frames.specs.Served.{Exchange, Sent, exchanges, requests_of, text_of, place_of, from_of, from_or_zero, places_of_round, uncoded_of_round, journal_limit, PlacesRise, StaysFull, IsRecorded, HasPlaceOrIsFull, FollowOn, IsFromWithin, IsEvaluated, AreServed, IsOneLane, IsOneLaneText}
 use Rattle.psi_frames.specs.OneLane.{HasByteCode, call_on, entries_by, lane_history, lane_next, lane_replies, lane_reply, reply_by, reply_of, version_by}
 use Rattle.psi_frames.proofs.Each.{each-vacuous, each-weaker}
+use Rattle.psi_frames.proofs.Placed.{IsCodedRight, some_place}
 use Rattle.psi_frames.proofs.Turns.{Turned, turned, answer-reply, body-reply, count-step, from-reply, no_refusal, place-reply, repack-tells}
 use Rattle.psi_frames.proofs.Lanes.{addresses, lane, paired, paired-lane, places-kept, seconds}
 use Rattle.psi_frames.proofs.Following.{IsBehind, before, lane-behind, lane-follows, lane-from_count, numbered_from, seconds-numbered}
@@ -42,14 +43,11 @@ coded-turn p v r (Turned.Coded own coded none) code e = rw (none, e) refl
 coded-turn p v r (Turned.Full uncoded_here full none) code e = absurd (cc)
 coded-turn p v r (Turned.Makes c uncoded_here room calls some) code e = absurd (cc)
 
-lane-coded : (p : Parameters) (v : Version) (ns : List (ℕ × Request)) → AllByRecursion (λ e. (code : ℕ) → code_of e.request ≡ Some code → e.reply ≡ reply.Refused code) (lane p v ns)
+lane-coded : (p : Parameters) (v : Version) (ns : List (ℕ × Request)) → AllByRecursion IsCodedRight (lane p v ns)
 lane-coded p v [] = tt
 lane-coded p v (n ∷ ns) = (coded-turn p v n.1 (turned v n.1), lane-coded p (lane_next v n.1) ns)
 
 -- another has a place, or met a full journal
-some_place : (o : Option ℕ) (n : ℕ) → o ≡ Some n → IsSome o
-some_place o n e = rw e refl
-
 placed-turn : (p : Parameters) (v : Version) (n : ℕ × Request) → Turned v n.1 → HasPlaceOrIsFull (turn_by p v n (call_on v n.1))
 placed-turn p v n (Turned.Coded own coded none) e = absurd (cc)
 placed-turn p v n (Turned.Full uncoded_here full none) e = inr (rw (none, uncoded_here) refl)

@@ -2,6 +2,7 @@ pub mod FrameLaws
 pub mod Spelled
 pub mod Turns
 pub mod Each
+pub mod Placed
 pub mod Lanes
 pub mod Following
 pub mod LaneServes

@@ -1,20 +1,20 @@
 -- Replies of one lane that serve rounds are those of the one-thread sender.
-use Rattle.std.specs.Prelude.{◌≡◌, ℕ, suc, ◌+◌, ◌-◌, ◌<◌, ◌≤◌, min, Bool, true, false, nat_eq, nat_lt, is_none, List, [], ◌∷◌, ◌++◌, length, filter, Option, Some, None, if◌then◌else◌}
+use Rattle.std.specs.Prelude.{◌≡◌, ℕ, suc, ◌+◌, ◌-◌, ◌<◌, ◌≤◌, min, Bool, true, false, nat_eq, nat_lt, List, [], ◌∷◌, ◌++◌, length, Option, Some, None}
 use Rattle.std.specs.List.{All, AllPairs, AllByRecursion, range_with_len}
 use Rattle.std.proofs.Common.{refl, sym, ap, ◌∙◌, ◌⊎◌, arith, inl, inr, append-nil, get_or, length-append}
 use Rattle.std.proofs.Math.Seq.{get_or-append_seam}
 use Rattle.std.proofs.lemmas.Bool.Decides.{nat_tests}
-use Rattle.std.proofs.lemmas.List.Elements.{filter_map-append, filter-append, recursion_from_All}
+use Rattle.std.proofs.lemmas.List.Elements.{recursion_from_All}
 use Rattle.std.proofs.lemmas.List.FromFn.{get_or-range_with_len, length-range_with_len}
 use Rattle.psi_residue.specs.Parameters.{Parameters}
 use Rattle.psi_bundle.specs.declared.history.Entry.{Entry}
 use Rattle.psi_bundle.specs.Versions.{Version}
-use Rattle.psi_frames.specs.declared.reply.Reply.TheVariants as reply
 use Rattle.psi_frames.specs.declared.request.Request.{Request}
 use Rattle.psi_frames.specs.Requests.{code_of}
-use Rattle.psi_frames.specs.Served.{Exchange, place_of, places_in, places_of_round, all_places, is_uncoded_in, uncoded_of_round, first_place, journal_limit, AreServed, IsOneLane, PlacesRise}
+use Rattle.psi_frames.specs.Served.{Exchange, place_of, places_in, places_of_round, all_places, uncoded_of_round, first_place, journal_limit, AreServed, IsOneLane, PlacesRise}
 use Rattle.psi_frames.proofs.Each.{each-weaker}
 use Rattle.psi_frames.proofs.Following.{before}
+use Rattle.psi_frames.proofs.Placed.{IsCodedRight, places-append, places-few, places-none, uncoded-append}
 use Rattle.psi_frames.proofs.Ranges.{RisesFrom, rising-range}
 
 -- places that rise in pairs rise in the list of them
@@ -49,11 +49,7 @@ from-zero : (es : List Exchange) → AllByRecursion (IsFrom 0) es
 from-zero [] = tt
 from-zero (e ∷ es) = ((λ n at. omega arith), from-zero es)
 
--- lists of exchanges that are kept, and not kept
-places-none : (keep : ℕ → Bool) (es : List Exchange) → AllByRecursion (λ e. keep e.round ≡ false) es → places_in keep es ≡ []
-places-none keep [] h = refl
-places-none keep (e ∷ es) h = let no_more = h.0 in rw no_more (places-none keep es h.1)
-
+-- exchanges without places
 places-empty : (keep : ℕ → Bool) (es : List Exchange) → AllByRecursion (λ e. place_of e.reply ≡ None) es → places_in keep es ≡ []
 places-empty keep [] h = refl
 places-empty keep (e ∷ es) h = by_kept (keep e.round) refl h.0 (places-empty keep es h.1) where
@@ -92,55 +88,23 @@ places-split : (k : ℕ) (es : List Exchange) → AllByRecursion (λ e. e.round 
 places-split k [] h = refl
 places-split k (e ∷ es) h = split_one k e es (place_of e.reply) refl (same_or_below e.round k h.0) (places-split k es h.1)
 
--- an exchange with a place has a request without a code
-abbrev pub IsCodedRight : Exchange → Type 0
-IsCodedRight e = (code : ℕ) → code_of e.request ≡ Some code → e.reply ≡ reply.Refused code
-
-placed_uncoded : (e : Exchange) (o : Option ℕ) (x : ℕ) → code_of e.request ≡ o → IsCodedRight e → place_of e.reply ≡ Some x → is_none (code_of e.request) ≡ true
-placed_uncoded e None x code right place = rw code refl
-placed_uncoded e (Some c) x code right place =
-    let refused = right c code in
-    let none : place_of e.reply ≡ None = ap place_of refused in
-    absurd (cc)
-
--- so there are no more places of a round than requests without a code
-more_places : (k : ℕ) (e : Exchange) (es : List Exchange) (b c : Bool) (o : Option ℕ) → nat_eq k e.round ≡ b → is_none (code_of e.request) ≡ c → place_of e.reply ≡ o
-    → ((x : ℕ) → place_of e.reply ≡ Some x → is_none (code_of e.request) ≡ true)
-    → length (places_of_round k es) ≤ uncoded_of_round k es → length (places_of_round k (e ∷ es)) ≤ uncoded_of_round k (e ∷ es)
-more_places k e es false c o here code place right rest = rw here rest
-more_places k e es true c None here code place right rest = rw (here, place, code) (by_code c rest) where
-  by_code : (c : Bool) → length (places_of_round k es) ≤ length (filter (is_uncoded_in k) es)
-      → length (places_of_round k es) ≤ length (if c then e ∷ filter (is_uncoded_in k) es else filter (is_uncoded_in k) es)
-  by_code true rest = omega (arith, rest)
-  by_code false rest = rest
-more_places k e es true true (Some x) here code place right rest = rw (here, place, code) (omega (arith, rest))
-more_places k e es true false (Some x) here code place right rest = let open_code = right x place in absurd (cc)
-
-places-uncoded : (k : ℕ) (es : List Exchange) → AllByRecursion IsCodedRight es → length (places_of_round k es) ≤ uncoded_of_round k es
-places-uncoded k [] h = omega arith
-places-uncoded k (e ∷ es) h =
-    more_places k e es (nat_eq k e.round) (is_none (code_of e.request)) (place_of e.reply) refl refl refl (λ x place. placed_uncoded e (code_of e.request) x refl h.0 place) (places-uncoded k es h.1)
-
 -- An exchange among all: those before it, and those behind it.
 pub record IsSplit (whole before_it behind_it : List Exchange) (e : Exchange) : Type 0 where
   pub all : whole ≡ before_it ++ e ∷ behind_it
   pub earlier : AllByRecursion (λ f. f.round ≤ e.round) before_it
   pub later : AllByRecursion (λ f. e.round ≤ f.round) behind_it
 
-pub places-seam : (keep : ℕ → Bool) (xs : List Exchange) (e : Exchange) (ys : List Exchange) → places_in keep (xs ++ e ∷ ys) ≡ places_in keep xs ++ places_in keep (e ∷ ys)
-places-seam keep xs e ys = filter_map-append (λ (f : Exchange). if keep f.round then place_of f.reply else None) xs (e ∷ ys)
-
 -- the places before its round stand before it
 before-split : (whole xs ys : List Exchange) (e : Exchange) → IsSplit whole xs ys e → before e.round whole ≡ before e.round xs
 before-split whole xs ys e split =
     let late : AllByRecursion (λ f. nat_lt f.round e.round ≡ false) ys = each-weaker (λ f. e.round ≤ f.round) (λ f. nat_lt f.round e.round ≡ false) (λ f le. grind (arith, nat_tests, le)) ys split.later in
     let here : nat_lt e.round e.round ≡ false = grind (arith, nat_tests) in
-    ap (before e.round) split.all ∙ places-seam (λ k. nat_lt k e.round) xs e ys
+    ap (before e.round) split.all ∙ places-append (λ k. nat_lt k e.round) xs (e ∷ ys)
     ∙ ap (λ (zs : List ℕ). before e.round xs ++ zs) (places-none (λ k. nat_lt k e.round) (e ∷ ys) (here, late)) ∙ append-nil (before e.round xs)
 
 -- the places of its round
 of-split : (whole xs ys : List Exchange) (e : Exchange) → IsSplit whole xs ys e → places_of_round e.round whole ≡ places_of_round e.round xs ++ places_of_round e.round (e ∷ ys)
-of-split whole xs ys e split = ap (places_of_round e.round) split.all ∙ places-seam (nat_eq e.round) xs e ys
+of-split whole xs ys e split = ap (places_of_round e.round) split.all ∙ places-append (nat_eq e.round) xs (e ∷ ys)
 
 -- the count of entries before it, where each place so far has one
 pub count-split : (given : List Entry) (whole xs ys : List Exchange) (e : Exchange) → IsSplit whole xs ys e
@@ -171,8 +135,7 @@ own_uncoded e ys code = let here : nat_eq e.round e.round ≡ true = grind (arit
 uncoded-split : (whole xs ys : List Exchange) (e : Exchange) → IsSplit whole xs ys e → code_of e.request ≡ None
     → uncoded_of_round e.round whole ≡ uncoded_of_round e.round xs + suc (uncoded_of_round e.round ys)
 uncoded-split whole xs ys e split code =
-    ap (uncoded_of_round e.round) split.all ∙ ap length (filter-append (is_uncoded_in e.round) xs (e ∷ ys))
-    ∙ length-append (filter (is_uncoded_in e.round) xs) (filter (is_uncoded_in e.round) (e ∷ ys)) ∙ ap (λ (n : ℕ). uncoded_of_round e.round xs + n) (own_uncoded e ys code)
+    ap (uncoded_of_round e.round) split.all ∙ uncoded-append e.round xs (e ∷ ys) ∙ ap (λ (n : ℕ). uncoded_of_round e.round xs + n) (own_uncoded e ys code)
 
 -- All exchanges, of one lane.
 module _ (p : Parameters) (start : Version) (given history : List Entry) (rounds : List (List Request)) (whole : List Exchange)
@@ -204,7 +167,7 @@ module _ (p : Parameters) (start : Version) (given history : List Entry) (rounds
       let first = first_place given e.round whole in
       let mine : length (places_of_round e.round whole) ≡ length (places_of_round e.round xs) =
       ap length (of-split whole xs ys e split ∙ ap (λ (zs : List ℕ). places_of_round e.round xs ++ zs) (no_place e ys none rest) ∙ append-nil (places_of_round e.round xs)) in
-      let few = places-uncoded e.round xs right in
+      let few = places-few e.round xs right in
       let more = uncoded-split whole xs ys e split code in
       let counted = count-split given whole xs ys e split in
       omega (arith, range.0, mine, few, more, counted)

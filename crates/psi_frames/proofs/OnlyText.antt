@@ -23,23 +23,12 @@ use Rattle.psi_frames.specs.Requests.{call_of, code_of, is_repack, journal_full,
 use Rattle.psi_frames.specs.Served.{Exchange, Sent, exchanges, requests_of, text_of, place_of, from_of, from_or_zero, answer_of, body_of, all_places, address_of_reply, address_of_request, journal_limit, AreServed, HasPlaceOrIsFull, IsEvaluated, IsOneLane, IsRecorded, StaysFull}
 use Rattle.psi_frames.specs.OneLane.{HasByteCode, LaneRepliesAreOfOneLane, OneTextIsOfOneLane, call_on, entries_by, lane_next, lane_replies, lane_reply, reply_by, reply_of}
 use Rattle.psi_frames.proofs.Each.{each-append, each-weaker}
+use Rattle.psi_frames.proofs.Placed.{IsCodedRight, none_from, places-append, tells_answer}
 use Rattle.psi_frames.proofs.Turns.{Turned, turned, count-behind, place-reply}
 use Rattle.psi_frames.proofs.Lanes.{paired, seconds}
 use Rattle.psi_frames.proofs.Following.{each-numbered, each-of_round, numbered_from, of_round, seconds-numbered}
 use Rattle.psi_frames.proofs.LaneServes.{HasLedTo, count-replay, coded-turn, lane-text, led-further, next_entry, version-there}
-use Rattle.psi_frames.proofs.OneText.{IsCodedRight, IsSplit, full-is, place-is, places-seam}
-
--- a reply with a place tells an answer
-tells_answer : (y : Reply) (x : ℕ) → place_of y ≡ Some x → (a : Answer) × (answer_of y ≡ Some a)
-tells_answer (reply.Added place) x e = (_, refl)
-tells_answer (reply.Replaced place) x e = (_, refl)
-tells_answer (reply.Removed place) x e = (_, refl)
-tells_answer (reply.Absent place) x e = (_, refl)
-tells_answer (reply.Full place planes cells) x e = (_, refl)
-tells_answer (reply.Answer place body) x e = (_, refl)
-tells_answer (reply.Repacked place from before after) x e = (_, refl)
-tells_answer (reply.Moved place from stamp) x e = (_, refl)
-tells_answer (reply.Refused code) x e = absurd (cc)
+use Rattle.psi_frames.proofs.OneText.{IsSplit, full-is, place-is}
 
 -- a reply is what it tells: its place, its answer, its `from` and its body
 is_told : (y : Reply) (a : Answer) (x : ℕ) (body : List ℕ) → place_of y ≡ Some x → answer_of y ≡ Some a → ((from : ℕ) → from_of y ≡ Some from → from ≡ x) → ((b : List ℕ) → body_of y ≡ Some b → b ≡ body) → y ≡ reply_of a x body
@@ -113,10 +102,6 @@ pub record IsTurn (p : Parameters) (v : Version) (r : Request) (y : Reply) (more
   pub same : y ≡ lane_reply p v r
   pub rest : List Entry
   pub goes_on : more ≡ entries_by v (call_on v r) ++ rest
-
-none_from : (o : Option ℕ) → ((x : ℕ) → o ≡ Some x → ⊥) → o ≡ None
-none_from None h = refl
-none_from (Some x) h = absurd (h x refl)
 
 module _ (p : Parameters) (start : Version) (given history : List Entry) (rounds : List (List Request)) (whole : List Exchange)
     (served : AreServed p start given history rounds whole) (one : IsOneLane whole) where
@@ -213,7 +198,7 @@ paired-rounds P (n ∷ ns) (s ∷ ss) h = (h.0, paired-rounds P ns ss h.1)
 places-more : (xs : List Exchange) (e : Exchange) (v : Version) (r : Request) (p : Parameters) → Turned v r → e.reply ≡ lane_reply p v r
     → length (all_places (xs ++ e ∷ [])) ≡ length (all_places xs) + length (entries_by v (call_on v r))
 places-more xs e v r p t same =
-    ap length (places-seam (λ _. true) xs e []) ∙ length-append (all_places xs) (all_places (e ∷ [])) ∙ ap (λ (n : ℕ). length (all_places xs) + n) (by_turn t same) where
+    ap length (places-append (λ _. true) xs (e ∷ [])) ∙ length-append (all_places xs) (all_places (e ∷ [])) ∙ ap (λ (n : ℕ). length (all_places xs) + n) (by_turn t same) where
       by_turn : Turned v r → e.reply ≡ lane_reply p v r → length (all_places (e ∷ [])) ≡ length (entries_by v (call_on v r))
       by_turn (Turned.Coded own coded none) same = rw none (rw (same, none) refl)
       by_turn (Turned.Full uncoded_here full none) same = rw none (rw (same, none) refl)

@@ -52,7 +52,7 @@ code-repack true true = tt
 code-repack true false = (omega arith, omega arith)
 
 -- what a frame without a code has
-put-fits : (p : Parameters) (body : List ℕ) → put_code p body ≡ None → HasLabelLength p (label_of body)
+pub put-fits : (p : Parameters) (body : List ℕ) → put_code p body ≡ None → HasLabelLength p (label_of body)
 put-fits p body e = by_item (has_item body) (has_label_length p (label_of body)) refl e where
   by_item : (item label : Bool) → has_label_length p (label_of body) ≡ label → (if not item then Some wrong_length else (if label then None else Some wrong_label)) ≡ None → HasLabelLength p (label_of body)
   by_item false label is e = absurd (cc)
@@ -132,7 +132,7 @@ ask-counted asks (request.Ask session number query) e = (leb-false asks_of_round
 ask-counted asks (request.Repack session number row) e = absurd (cc)
 ask-counted asks (request.Bad session number code) e = absurd (cc)
 
-no_ask-unless : (o : Option ℕ) (f : Frame) (r : Request) → is_ask r ≡ false → is_ask (unless_coded o f r) ≡ false
+pub no_ask-unless : (o : Option ℕ) (f : Frame) (r : Request) → is_ask r ≡ false → is_ask (unless_coded o f r) ≡ false
 no_ask-unless None f r e = e
 no_ask-unless (Some code) f r e = refl
 

@@ -1,5 +1,5 @@
 -- The key of a seed and its encryptions are what an evaluation rests on, and the query has them in its body.
-use Rattle.std.proofs.Common.{ℕ, zero, suc, ◌+◌, ◌*◌, ◌%◌, ◌<◌, ◌≤◌, ◌≡◌, List, length, get_or, refl, arith, ℤ, pos, unsigned_abs, ◌-ℤ◌}
+use Rattle.std.proofs.Common.{ℕ, zero, suc, ◌+◌, ◌*◌, ◌%◌, ◌<◌, ◌≤◌, ◌≡◌, List, length, get_or, refl, ap, ◌∙◌, arith, ℤ, pos, unsigned_abs, ◌-ℤ◌}
 use Rattle.std.specs.List.{All, range_with_len}
 use Rattle.std.proofs.lemmas.Int.{ints}
 use Rattle.std.proofs.lemmas.List.Elements.{All-map}
@@ -14,10 +14,10 @@ use Rattle.bfv_core.specs.Encryptions.{IsKey, Carries}
 use Rattle.bfv_core.specs.EncryptedLists.{key_of_seed, hidden, encrypted, first_mask, second_mask}
 use Rattle.psi_residue.proofs.Polynomials.{IsPolynomial-table}
 use Rattle.bfv_core.proofs.Carrying.{carries-encrypted}
-use Rattle.query_codec.specs.Queries.{query_ciphertexts as body_ciphertexts}
-use Rattle.query_codec.proofs.QueryBodies.{query_read_back}
+use Rattle.query_codec.specs.Queries.{query_ciphertexts as body_ciphertexts, query_length}
+use Rattle.query_codec.proofs.QueryBodies.{IsQuery-written, query_read_back}
 use Rattle.psi_receiver.specs.declared.placement.Placed.{Placed}
-use Rattle.psi_receiver.specs.Queries.{query_ciphertext, query_ciphertexts, query_of}
+use Rattle.psi_receiver.specs.Queries.{IsQueryOf, query_ciphertext, query_ciphertexts, query_of}
 
 ternary : (n : ℕ) → unsigned_abs (pos (n % 3) -ℤ pos 1) ≤ 1
 ternary n = small (n % 3) (omega arith)
@@ -86,3 +86,8 @@ whole-query p seed placed = All-map IsCiphertext (query_ciphertext p.capacity se
 
 pub query-read : (p : Parameters) (seed : List ℕ) (placed : List Placed) → body_ciphertexts p (query_of p seed placed) ≡ query_ciphertexts p seed placed
 query-read p seed placed = query_read_back p (query_ciphertexts p seed placed) (whole-query p seed placed) (length-query p seed placed)
+
+-- the query of tags has the length of a query
+pub query-size : (p : Parameters) (seed : List ℕ) (tags : List (List ℕ)) (body : List ℕ) → IsQueryOf p seed tags body → length body ≡ query_length p
+query-size p seed tags body query =
+    ap length query.2 ∙ (IsQuery-written p (query_ciphertexts p seed query.0) (whole-query p seed query.0) (length-query p seed query.0)).size

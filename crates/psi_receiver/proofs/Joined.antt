@@ -175,7 +175,7 @@ item-found p seed placed rows x passed many lt bins bytes alone =
 
 -- ---- the reply's body
 
-small-counts : (p : Parameters) (rows : List Row) (i : ℕ) → IsWithinLimits p rows → get_or (bundle_counts rows) i 0 < 65536
+pub small-counts : (p : Parameters) (rows : List Row) (i : ℕ) → IsWithinLimits p rows → get_or (bundle_counts rows) i 0 < 65536
 small-counts p rows i limits =
     elim (cases_lt i (length (bundle_counts rows))) [
       | inl lt ↦

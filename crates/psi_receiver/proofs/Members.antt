@@ -26,15 +26,13 @@ use Rattle.psi_receiver.specs.Placements.{placed, placed_item, position_sets}
 use Rattle.psi_receiver.proofs.Bins.{AreApart, HasRoot, one_member, root-found, root-of_member}
 use Rattle.psi_receiver.proofs.Joined.{opened-found, placed-own}
 use Rattle.psi_receiver.proofs.Labels.{labels-same, root_label-is}
+use Rattle.psi_receiver.proofs.Strangers.{contains-later}
 use Rattle.psi_receiver.proofs.TagBytes.{tag_of-bytes}
 
 -- ---- elements of lists
 
 contains-first : {X : Type 0} (x : X) (xs : List X) → Contains (x ∷ xs) x
 contains-first x xs = (zero, omega arith, refl)
-
-contains-later : {X : Type 0} (y : X) (xs : List X) (x : X) → Contains xs x → Contains (y ∷ xs) x
-contains-later y xs x (k, lt, same) = (suc k, omega (arith, lt), same)
 
 contains-mapped : {X Y : Type 0} (f : X → Y) (xs : List X) (x : X) → Contains xs x → Contains (map f xs) (f x)
 contains-mapped f xs x (k, lt, same) = (k, omega (arith, lt, length-map xs f), get_or-map f xs k x (f x) lt ∙ ap f same)

@@ -15,8 +15,8 @@ use Rattle.psi_receiver.specs.Findings.{bin_in, has_roots, found_at, found_item,
 use Rattle.psi_receiver.specs.Laws.{TakesSlots}
 use Rattle.psi_receiver.proofs.Bins.{root-found}
 
-later : {X : Type 0} (y : X) (xs : List X) (x : X) → Contains xs x → Contains (y ∷ xs) x
-later y xs x (k, lt, same) = (suc k, omega (arith, lt), same)
+pub contains-later : {X : Type 0} (y : X) (xs : List X) (x : X) → Contains xs x → Contains (y ∷ xs) x
+contains-later y xs x (k, lt, same) = (suc k, omega (arith, lt), same)
 
 -- what holds of all five parts holds of each
 pub each_of_five : (f : ℕ → Bool) → list_all f parts ≡ true → (part : ℕ) → part < 5 → f part ≡ true
@@ -63,7 +63,7 @@ items_take p rows placed [] within = tt
 items_take p rows placed (x ∷ xs) within =
     all_joined (TakesSlots rows placed) (found_item p rows x) (flat_map (found_item p rows) xs)
     (item_takes p rows placed x (within x (zero, omega arith, refl)))
-    (items_take p rows placed xs (λ y h. within y (later x xs y h)))
+    (items_take p rows placed xs (λ y h. within y (contains-later x xs y h)))
 
 pub found_take : (p : Parameters) (rows : List Row) (placed : List Placed) → All (TakesSlots rows placed) (found p rows placed)
 unfolding found

@@ -11,24 +11,16 @@ use Rattle.psi_frames.specs.Rounds.{request_rounds}
 use Rattle.psi_frames.specs.Served.{HaveOneReplyEach, Sent, all_places, exchanges, numbered, place_of, requests_of}
 use Rattle.psi_frames.proofs.FrameLaws.{length-frame_append}
 use Rattle.psi_frames.proofs.Lanes.{paired}
+use Rattle.psi_frames.proofs.RoundRequests.{few-requests}
 use Rattle.psi_serve.specs.Runs.{frames_of}
 use Rattle.psi_serve.specs.Serving.{entries_of}
 use Rattle.psi_serve.proofs.Renumbered.{length-numbered, length-replies}
 
 -- a round has no more requests than frames
-requests-fewer : (p : Parameters) (asks : ℕ) (fs : List Frame) → length (requests_from p asks fs) ≤ length fs
-unfolding requests_from
-requests-fewer p asks [] = omega arith
-requests-fewer p asks (f ∷ fs) = by_kind (nat_eq f.kind go_kind) (requests-fewer p asks fs) (requests-fewer p (asks_behind asks f) fs) where
-  by_kind : (b : Bool) → length (requests_from p asks fs) ≤ length fs → length (requests_from p (asks_behind asks f) fs) ≤ length fs
-      → length (if b then requests_from p asks fs else counted asks (request_of p f) ∷ requests_from p (asks_behind asks f) fs) ≤ length (f ∷ fs)
-  by_kind true go other = omega (arith, go)
-  by_kind false go other = omega (arith, other)
-
 rounds-fewer : (p : Parameters) (rounds : List (List Frame)) → length (requests_of (request_rounds p rounds)) ≤ length (frames_of rounds)
 rounds-fewer p [] = omega arith
 rounds-fewer p (round ∷ rounds) =
-    let here = requests-fewer p 0 round in
+    let here = few-requests p 0 round in
     let rest = rounds-fewer p rounds in
     omega (arith, here, rest, length-append (requests_from p 0 round) (requests_of (request_rounds p rounds)), length-append round (frames_of rounds))
 

@@ -21,9 +21,11 @@ use Rattle.psi_frames.specs.Requests.{code_of, is_repack, journal_full, query_of
 use Rattle.psi_frames.specs.Served.{AreServed, Exchange, FollowOn, HasPlaceOrIsFull, HaveOneReplyEach, IsEvaluated, IsFromWithin, IsOneLane, IsRecorded, IsServed, PlacesRise, SameSession, SeesOwn, Sent, StaysFull, address_of_reply, address_of_request, all_places, exchanges, first_place, from_of, journal_limit, place_of, places_in, places_of_round, requests_of, uncoded_of_round}
 use Rattle.psi_frames.proofs.Each.{each-weaker}
 use Rattle.psi_frames.proofs.Following.{before}
+use Rattle.psi_frames.proofs.OneText.{IsFrom}
+use Rattle.psi_frames.proofs.Placed.{IsCodedRight, from_placed, places-append, places-every, places-none, uncoded-append}
 use Rattle.psi_serve.proofs.Pairs.{pairs-append, pairs-map}
-use Rattle.psi_serve.proofs.Places.{IsBelow, IsCodedRight, IsFrom, from_placed, none_placed, permuted-from, permuted-length, places-each, places-fewer, places-parts, recorded-below}
-use Rattle.psi_serve.proofs.Renumbered.{exchanges-one_more, in_round, moved, places-append, places-every, places-moved, places-none, requests-each, rounds-below, rounds-first, uncoded-append, uncoded-none}
+use Rattle.psi_serve.proofs.Places.{IsBelow, none_placed, permuted-from, permuted-length, places-each, places-fewer, places-parts, recorded-below}
+use Rattle.psi_serve.proofs.Renumbered.{exchanges-one_more, in_round, moved, places-moved, requests-each, rounds-below, rounds-first, uncoded-none}
 
 -- what a front of a history tells, the history tells
 front-get : (middle rest : List Entry) (x : ℕ) → x < length middle → slice_get (middle ++ rest) x ≡ slice_get middle x

@@ -20,10 +20,7 @@ use Rattle.psi_frames.proofs.LaneServes.{exchanges-lane, lane-legal, lane-one, l
 use Rattle.sender_core.specs.Kept.{Contents, version_of}
 use Rattle.psi_serve.specs.Books.{IsBookOf, journal_of}
 use Rattle.psi_serve.proofs.OneRound.{fit-code}
-
-each-second : (P : Request → Type 0) (ns : List (ℕ × Request)) → AllByRecursion P (seconds ns) → AllByRecursion (λ n. P n.1) ns
-each-second P [] h = tt
-each-second P (n ∷ ns) h = (h.0, each-second P ns h.1)
+use Rattle.psi_serve.proofs.Renumbered.{each-seconds}
 
 -- the requests of one round
 requests-one : (requests : List Request) → seconds (numbered_from 0 (requests ∷ [])) ≡ requests
@@ -49,7 +46,7 @@ module _ (p : Parameters) (start : Version) (given : List Entry) (requests : Lis
 
   bytes : AllByRecursion (λ n. HasByteCode n.1) (numbered_from 0 rounds)
   bytes =
-      each-second HasByteCode (numbered_from 0 rounds)
+      each-seconds HasByteCode (numbered_from 0 rounds)
       (subst (AllByRecursion HasByteCode) (sym (requests-one requests)) (recursion_from_All HasByteCode requests (All-weaker (IsFit p) HasByteCode (fit-code p) requests fit)))
 
   pub lane-round_all : IsServed p start given (given ++ lane_history (replay start given) (seconds (numbered_from 0 rounds))) rounds (lane_replies p (replay start given) (requests ++ []))

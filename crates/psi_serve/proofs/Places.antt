@@ -19,40 +19,11 @@ use Rattle.psi_frames.specs.declared.request.Request.TheVariants as request
 use Rattle.psi_frames.specs.Requests.{call_of, code_of}
 use Rattle.psi_frames.specs.Served.{Exchange, IsRecorded, answer_of, all_places, from_of, from_or_zero, place_of, places_in, places_of_round, uncoded_of_round}
 use Rattle.psi_frames.proofs.Following.{before}
+use Rattle.psi_frames.proofs.Placed.{IsCodedRight, counts_one, none_from, placed_uncoded, places-few, tells_answer}
 
--- an exchange whose request has a code is refused with it
-abbrev pub IsCodedRight : Exchange → Type 0
-IsCodedRight e = (code : ℕ) → code_of e.request ≡ Some code → e.reply ≡ reply.Refused code
-
--- a place below a limit, and one from a limit on
+-- a place below a limit
 abbrev pub IsBelow : ℕ → Exchange → Type 0
 IsBelow high e = (x : ℕ) → place_of e.reply ≡ Some x → x < high
-
-abbrev pub IsFrom : ℕ → Exchange → Type 0
-IsFrom low e = (x : ℕ) → place_of e.reply ≡ Some x → low ≤ x
-
--- a reply with a place tells an answer, and one with a `from` has a place
-pub tells_answer : (y : Reply) (x : ℕ) → place_of y ≡ Some x → (a : Answer) × (answer_of y ≡ Some a)
-tells_answer (reply.Added place) x e = (_, refl)
-tells_answer (reply.Replaced place) x e = (_, refl)
-tells_answer (reply.Removed place) x e = (_, refl)
-tells_answer (reply.Absent place) x e = (_, refl)
-tells_answer (reply.Full place planes cells) x e = (_, refl)
-tells_answer (reply.Answer place body) x e = (_, refl)
-tells_answer (reply.Repacked place from before after) x e = (_, refl)
-tells_answer (reply.Moved place from stamp) x e = (_, refl)
-tells_answer (reply.Refused code) x e = absurd (cc)
-
-pub from_placed : (y : Reply) (from : ℕ) → from_of y ≡ Some from → (x : ℕ) × (place_of y ≡ Some x)
-from_placed (reply.Repacked place own before after) from e = (place, refl)
-from_placed (reply.Moved place own stamp) from e = (place, refl)
-from_placed (reply.Added place) from e = absurd (cc)
-from_placed (reply.Replaced place) from e = absurd (cc)
-from_placed (reply.Removed place) from e = absurd (cc)
-from_placed (reply.Absent place) from e = absurd (cc)
-from_placed (reply.Full place planes cells) from e = absurd (cc)
-from_placed (reply.Answer place body) from e = absurd (cc)
-from_placed (reply.Refused code) from e = absurd (cc)
 
 -- a request without a code makes a call
 makes_call : (r : Request) (from : ℕ) → code_of r ≡ None → (c : Call) × (call_of r from ≡ Some c)
@@ -61,14 +32,6 @@ makes_call (request.Drop session number tag) from e = (_, refl)
 makes_call (request.Ask session number query) from e = (_, refl)
 makes_call (request.Repack session number row) from e = (_, refl)
 makes_call (request.Bad session number code) from e = absurd (cc)
-
--- a place is that of a request without a code
-pub placed_uncoded : (e : Exchange) (o : Option ℕ) (x : ℕ) → code_of e.request ≡ o → IsCodedRight e → place_of e.reply ≡ Some x → code_of e.request ≡ None
-placed_uncoded e None x code right place = code
-placed_uncoded e (Some c) x code right place =
-    let refused = right c code in
-    let none : place_of e.reply ≡ None = ap place_of refused in
-    absurd (cc)
 
 -- a place that the history records is below its length
 pub recorded-below : (history : List Entry) (e : Exchange) → IsCodedRight e → IsRecorded history e → IsBelow (length history) e
@@ -91,10 +54,6 @@ places-each P keep (e ∷ es) kept h = by_place (place_of e.reply) refl (keep e.
   by_place (Some y) place true is more = rw (is, place) (λ h. ((λ x some. let same : y ≡ x = cc in subst P same h.0), more h.1))
 
 -- where there are none, none has one
-none_from : (o : Option ℕ) → ((x : ℕ) → o ≡ Some x → ⊥) → o ≡ None
-none_from None h = refl
-none_from (Some x) h = absurd (h x refl)
-
 pub none_placed : (keep : ℕ → Bool) (es : List Exchange) → AllByRecursion (λ e. keep e.round ≡ true) es → places_in keep es ≡ [] → All (λ e. place_of e.reply ≡ None) es
 none_placed keep es kept none k d lt =
     let each = All-from_recursion (λ e. (x : ℕ) → place_of e.reply ≡ Some x → ⊥) es
@@ -113,24 +72,6 @@ permuted-from low n base xs moves le =
 
 pub permuted-length : (low n : ℕ) (xs : List ℕ) → IsPermutation xs (range_with_len low n) → length xs ≡ n
 permuted-length low n xs moves = sym (length_permutation xs (range_with_len low n) moves) ∙ length-range_with_len low n
-
--- one exchange more adds no more places to a round than requests without a code
-counts_more : (k : ℕ) (e : Exchange) (es : List Exchange) (b : Bool) (c o : Option ℕ) → nat_eq k e.round ≡ b → code_of e.request ≡ c → place_of e.reply ≡ o
-    → ((x : ℕ) → place_of e.reply ≡ Some x → code_of e.request ≡ None)
-    → length (places_of_round k (e ∷ es)) + uncoded_of_round k es ≤ uncoded_of_round k (e ∷ es) + length (places_of_round k es)
-counts_more k e es false c o here code place right = rw here (omega arith)
-counts_more k e es true None None here code place right = rw (here, place, code) (omega arith)
-counts_more k e es true (Some c) None here code place right = rw (here, place, code) (omega arith)
-counts_more k e es true None (Some x) here code place right = rw (here, place, code) (omega arith)
-counts_more k e es true (Some c) (Some x) here code place right = let own = right x place in absurd (cc)
-
-counts_one : (k : ℕ) (e : Exchange) (es : List Exchange) → IsCodedRight e
-    → length (places_of_round k (e ∷ es)) + uncoded_of_round k es ≤ uncoded_of_round k (e ∷ es) + length (places_of_round k es)
-counts_one k e es right = counts_more k e es (nat_eq k e.round) (code_of e.request) (place_of e.reply) refl refl refl (λ x place. placed_uncoded e (code_of e.request) x refl right place)
-
-places-few : (k : ℕ) (es : List Exchange) → AllByRecursion IsCodedRight es → length (places_of_round k es) ≤ uncoded_of_round k es
-places-few k [] h = omega arith
-places-few k (e ∷ es) h = let one = counts_one k e es h.0 in let rest = places-few k es h.1 in omega (arith, one, rest)
 
 -- an exchange without a code and without a place adds to the latter alone
 counts_unplaced : (e : Exchange) (es : List Exchange) → code_of e.request ≡ None → place_of e.reply ≡ None

@@ -77,28 +77,13 @@ pub rounds-first : (round : List Request) (sents : List Sent) → AllByRecursion
 rounds-first round sents =
     each-paired (λ k r. k ≡ 0) (of_round 0 round ++ []) sents (each-append (λ n. n.0 ≡ 0) (of_round 0 round) [] (each-of_round (λ k. k ≡ 0) 0 round refl) tt)
 
-each-seconds : (P : Request → Type 0) (ns : List (ℕ × Request)) → AllByRecursion P (seconds ns) → AllByRecursion (λ n. P n.1) ns
+pub each-seconds : (P : Request → Type 0) (ns : List (ℕ × Request)) → AllByRecursion P (seconds ns) → AllByRecursion (λ n. P n.1) ns
 each-seconds P [] h = tt
 each-seconds P (n ∷ ns) h = (h.0, each-seconds P ns h.1)
 
 pub requests-each : (P : Request → Type 0) (rounds : List (List Request)) (sents : List Sent) → AllByRecursion P (requests_of rounds) → AllByRecursion (λ e. P e.request) (exchanges rounds sents)
 requests-each P rounds sents h =
     each-paired (λ k r. P r) (numbered rounds) sents (each-seconds P (numbered rounds) (subst (AllByRecursion P) (sym (seconds-numbered 0 rounds)) h))
-
--- places among appended exchanges
-pub places-append : (keep : ℕ → Bool) (xs ys : List Exchange) → places_in keep (xs ++ ys) ≡ places_in keep xs ++ places_in keep ys
-places-append keep xs ys = filter_map-append (λ (e : Exchange). if keep e.round then place_of e.reply else None) xs ys
-
-pub uncoded-append : (k : ℕ) (xs ys : List Exchange) → uncoded_of_round k (xs ++ ys) ≡ uncoded_of_round k xs + uncoded_of_round k ys
-uncoded-append k xs ys = ap length (filter-append (is_uncoded_in k) xs ys) ∙ length-append (filter (is_uncoded_in k) xs) (filter (is_uncoded_in k) ys)
-
-pub places-none : (keep : ℕ → Bool) (es : List Exchange) → AllByRecursion (λ e. keep e.round ≡ false) es → places_in keep es ≡ []
-places-none keep [] h = refl
-places-none keep (e ∷ es) h = let other = h.0 in rw other (places-none keep es h.1)
-
-pub places-every : (keep : ℕ → Bool) (es : List Exchange) → AllByRecursion (λ e. keep e.round ≡ true) es → places_in keep es ≡ all_places es
-places-every keep [] h = refl
-places-every keep (e ∷ es) h = let kept = h.0 in let rest = places-every keep es h.1 in simp (kept, rest)
 
 -- the places of exchanges with another round
 pub places-moved : (keep : ℕ → Bool) (k : ℕ) (es : List Exchange) → places_in keep (moved k es) ≡ places_in (λ _. keep k) es

@@ -19,13 +19,14 @@ use Rattle.psi_frames.specs.declared.request.Request.{Request}
 use Rattle.psi_frames.specs.Requests.{is_repack, journal_full}
 use Rattle.psi_frames.specs.Served.{AreServed, Exchange, FollowOn, HasPlaceOrIsFull, IsEvaluated, IsFromWithin, IsOneLane, IsRecorded, PlacesRise, SameSession, SeesOwn, StaysFull, all_places, first_place, from_of, journal_limit, place_of, places_in, places_of_round, uncoded_of_round}
 use Rattle.psi_frames.proofs.Each.{each-weaker}
+use Rattle.psi_frames.proofs.Placed.{IsCodedRight, from_placed, places-every, places-none}
 use Rattle.live_sender.specs.declared.origin.Origin.{Origin}
 use Rattle.live_sender.specs.Histories.{first_version}
 use Rattle.query_pool.specs.Joined.{AreJoined, IsPart, lane_of, lane_part}
 use Rattle.query_pool.proofs.ByLane.{all_by_lane, pairs_by_lane}
 use Rattle.query_pool.proofs.CountedOnce.{counted_once, times-cons}
 use Rattle.query_pool.proofs.Gathered.{lane}
-use Rattle.query_pool.proofs.Limits.{IsCodedRight, enough-or_full, from_placed, places-every, places-few, places-none}
+use Rattle.query_pool.proofs.Limits.{enough-or_full, places-few}
 
 -- each exchange is of one of the lanes
 pub lanes-few : (workers : ℕ) → 0 < workers → (es : List Exchange) → AllByRecursion (λ e. lane workers e < workers) es

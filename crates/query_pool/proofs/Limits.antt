@@ -7,31 +7,7 @@ use Rattle.psi_frames.specs.declared.reply.Reply.{Reply}
 use Rattle.psi_frames.specs.declared.reply.Reply.TheVariants as reply
 use Rattle.psi_frames.specs.Requests.{code_of, journal_full}
 use Rattle.psi_frames.specs.Served.{Exchange, HasPlaceOrIsFull, all_places, from_of, place_of, places_in, uncoded_of_round}
-
--- a reply with a `from` has a place
-pub from_placed : (y : Reply) (from : ℕ) → from_of y ≡ Some from → (x : ℕ) × (place_of y ≡ Some x)
-from_placed (reply.Repacked place own before after) from e = (place, refl)
-from_placed (reply.Moved place own stamp) from e = (place, refl)
-from_placed (reply.Added place) from e = absurd (cc)
-from_placed (reply.Replaced place) from e = absurd (cc)
-from_placed (reply.Removed place) from e = absurd (cc)
-from_placed (reply.Absent place) from e = absurd (cc)
-from_placed (reply.Full place planes cells) from e = absurd (cc)
-from_placed (reply.Answer place body) from e = absurd (cc)
-from_placed (reply.Refused code) from e = absurd (cc)
-
--- an exchange whose request has a code is refused with it
-abbrev pub IsCodedRight : Exchange → Type 0
-IsCodedRight e = (code : ℕ) → code_of e.request ≡ Some code → e.reply ≡ reply.Refused code
-
--- the rounds' numbers do not matter where all are kept
-pub places-every : (keep : ℕ → Bool) (es : List Exchange) → AllByRecursion (λ e. keep e.round ≡ true) es → places_in keep es ≡ all_places es
-places-every keep [] h = refl
-places-every keep (e ∷ es) h = let kept = h.0 in let rest = places-every keep es h.1 in simp (kept, rest)
-
-pub places-none : (keep : ℕ → Bool) (es : List Exchange) → AllByRecursion (λ e. keep e.round ≡ false) es → places_in keep es ≡ []
-places-none keep [] h = refl
-places-none keep (e ∷ es) h = let other = h.0 in rw other (places-none keep es h.1)
+use Rattle.psi_frames.proofs.Placed.{IsCodedRight}
 
 -- one exchange more of round 0 adds no more places than requests without a code
 few-more : (e : Exchange) (es : List Exchange) (c o : Option ℕ) → e.round ≡ 0 → code_of e.request ≡ c → place_of e.reply ≡ o → IsCodedRight e

@@ -16,20 +16,15 @@ use Rattle.psi_frames.specs.declared.request.Request.{Request}
 use Rattle.psi_frames.specs.declared.request.Request.TheVariants as request
 use Rattle.psi_frames.specs.Requests.{IsFit, call_of, code_of, is_repack, journal_full, query_of}
 use Rattle.psi_frames.specs.Served.{Exchange, HasPlaceOrIsFull, IsEvaluated, IsRecorded, PlacesRise, SeesOwn, Sent, StaysFull, addressed, all_places, from_of, from_or_zero, place_of}
+use Rattle.psi_frames.proofs.Lanes.{paired}
 use Rattle.psi_frames.proofs.LaneServes.{next_entry}
+use Rattle.psi_frames.proofs.Placed.{none_from, some_place}
 use Rattle.live_sender.specs.declared.origin.Origin.{Origin}
 use Rattle.live_sender.specs.Histories.{first_version}
 use Rattle.live_sender.specs.Turns.{Known}
 use Rattle.query_pool.specs.Exchanges.{GoesOn, IsBodyAt, IsOne, IsToldEntry, IsToldFrom, IsToldFull, Tells, lane_exchange}
 use Rattle.query_pool.specs.Lanes.{IsFromBehind, IsFullWithin, IsLane, IsPlacedWithin, IsSeated, lane_exchanges}
 use Rattle.query_pool.proofs.Beginnings.{evaluated-goes, prefix-self, prefix-short, prefix-then, recorded-goes}
-
-some_place : (o : Option ℕ) (n : ℕ) → o ≡ Some n → IsSome o
-some_place o n is = rw is refl
-
-no-place : (o : Option ℕ) → ((x : ℕ) → o ≡ Some x → ⊥) → o ≡ None
-no-place (Some x) never = absurd (never x refl)
-no-place None never = refl
 
 -- the places of one exchange
 one-place : (e : Exchange) (n : ℕ) → place_of e.reply ≡ Some n → all_places (e ∷ []) ≡ n ∷ []
@@ -201,7 +196,7 @@ module _ (z : Origin) (v w u : Known) (es : List Exchange) (e : Exchange) (l : I
       all_pairs_push StaysFull es e l.stay
       (λ k d lt is.
       let full = l.full k d lt is in
-      no-place (place_of e.reply) (λ x at.
+      none_from (place_of e.reply) (λ x at.
       let new = o.placed x at in
       let few = o.gone.history.few in
       omega (arith, full, new.0, new.1, few)))
@@ -245,21 +240,18 @@ module _ (z : Origin) (v w u : Known) (es : List Exchange) (e : Exchange) (l : I
 abbrev in_round : List Request → List (ℕ × Request)
 in_round rs = map (λ r. (0, r)) rs
 
-abbrev paired_by : List (ℕ × Request) → List Sent → List Exchange
-paired_by ns sents = map {A = (ℕ × Request) × Sent} {B = Exchange} (λ x. record { round = x.0.0; request = x.0.1; reply = x.1.reply }) (zip ns sents)
+abbrev lane_paired : List Request → List Reply → List Exchange
+lane_paired rs ts = paired (in_round rs) (addressed rs ts)
 
-abbrev paired : List Request → List Reply → List Exchange
-paired rs ts = paired_by (in_round rs) (addressed rs ts)
-
-paired-push : (rs : List Request) (ts : List Reply) (r : Request) (t : Reply) → length ts ≡ length rs → paired (rs ++ r ∷ []) (ts ++ t ∷ []) ≡ paired rs ts ++ lane_exchange r t ∷ []
+paired-push : (rs : List Request) (ts : List Reply) (r : Request) (t : Reply) → length ts ≡ length rs → lane_paired (rs ++ r ∷ []) (ts ++ t ∷ []) ≡ lane_paired rs ts ++ lane_exchange r t ∷ []
 paired-push [] [] r t same = refl
 paired-push [] (x ∷ ts) r t same = absurd (omega (arith, same))
 paired-push (x ∷ rs) [] r t same = absurd (omega (arith, same))
 paired-push (x ∷ rs) (y ∷ ts) r t same = ap (λ (es : List Exchange). lane_exchange x y ∷ es) (paired-push rs ts r t (omega (arith, same)))
 
 -- there is one round
-one-round : (rs : List Request) (ts : List Reply) → lane_exchanges rs ts ≡ paired rs ts
-one-round rs ts = ap (λ (ns : List (ℕ × Request)). paired_by ns (addressed rs ts)) (append-nil (in_round rs))
+one-round : (rs : List Request) (ts : List Reply) → lane_exchanges rs ts ≡ lane_paired rs ts
+one-round rs ts = ap (λ (ns : List (ℕ × Request)). paired ns (addressed rs ts)) (append-nil (in_round rs))
 
 pub exchanges-push : (rs : List Request) (ts : List Reply) (r : Request) (t : Reply) → length ts ≡ length rs → lane_exchanges (rs ++ r ∷ []) (ts ++ t ∷ []) ≡ lane_exchanges rs ts ++ lane_exchange r t ∷ []
 exchanges-push rs ts r t same =

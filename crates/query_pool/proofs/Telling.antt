@@ -50,7 +50,7 @@ told-entry v w c a place told e at tells = inl (record {
 
 -- ---- a query
 
-replay-parameters : (v : Version) (es : List Entry) → (replay v es).parameters ≡ v.parameters
+pub replay-parameters : (v : Version) (es : List Entry) → (replay v es).parameters ≡ v.parameters
 replay-parameters v [] = refl
 replay-parameters v (e ∷ es) = replay-parameters (after v e) es ∙ step-parameters v e.call
 

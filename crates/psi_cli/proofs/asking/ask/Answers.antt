@@ -2,7 +2,8 @@ use Rattle.std.proofs.Common.{◌≡◌, ℕ, Vec, Global, map, ap, ◌∙◌}
 use Rattle.item_slots.specs.Tags.{tag_of}
 use Rattle.noise_ledger.specs.Verdicts.{parameters_of}
 use Rattle.psi_cli.specs.Texts.{crowded_text}
-use Rattle.psi_cli.proofs.Made.{crowd_made, frame_made, query-size, tags_shown}
+use Rattle.psi_receiver.proofs.Encryptions.{query-size}
+use Rattle.psi_cli.proofs.Made.{crowd_made, frame_made, tags_shown}
 use Rattle.psi_cli.proofs.asking.ask.Goals as goal
 
 pub query_frame-requires-clause-sized : goal.query_frame-requires-clause-sized

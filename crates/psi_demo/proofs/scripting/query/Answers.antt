@@ -1,7 +1,7 @@
 use Rattle.std.proofs.Common.{ap, ◌∙◌}
 use Rattle.noise_ledger.specs.Verdicts.{parameters_of}
 use Rattle.query_codec.specs.Queries.{query_length}
-use Rattle.psi_demo.proofs.Made.{query-size}
+use Rattle.psi_receiver.proofs.Encryptions.{query-size}
 use Rattle.psi_demo.proofs.scripting.query.Goals as goal
 
 pub returns-in-Ok-clause-size : goal.returns-in-Ok-clause-size
