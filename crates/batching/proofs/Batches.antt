@@ -1,9 +1,10 @@
 -- Packing and the slots of lists are the transforms modulo the plaintext modulus.
-use Rattle.std.proofs.Common.{◌≡◌, ℕ, ◌<◌, List, get_or, refl, ap, ◌∙◌, sym, subst}
+use Rattle.std.proofs.Common.{◌≡◌, ℕ, ◌<◌, List, get_or, refl, ap, ◌∙◌, sym, subst, arith}
 use Rattle.psi_residue.specs.declared.numbers.Modulus.TheVariants as moduli
 use Rattle.psi_residue.specs.Numbers.{root_of, root_inverse_of, degree_inverse_of}
 use Rattle.psi_residue.specs.Polynomials.{IsPolynomial}
-use Rattle.psi_residue.specs.Slots.{slot_of, slots_of, packed_at, packed, packed_list}
+use Rattle.psi_residue.specs.Slots.{coefficient_from, slot_of, slots_of, packed_at, packed, packed_list}
+use Rattle.psi_residue.proofs.Polynomials.{IsPolynomial-table}
 use Rattle.psi_residue.proofs.Sums.{slice_index-table}
 use Rattle.negacyclic.specs.Transforms.{values_of, polynomial_of}
 use Rattle.negacyclic.proofs.TransformLaws.{IsPolynomial-values_of, IsPolynomial-polynomial_of, polynomial_of-values_of, values_of-polynomial_of}
@@ -21,6 +22,15 @@ IsPolynomial-packed_list v = subst (λ (p : List ℕ). IsPolynomial 65537 p) (po
 
 pub IsPolynomial-slots_of : (p : List ℕ) → IsPolynomial 65537 (slots_of p)
 IsPolynomial-slots_of p = subst (λ (v : List ℕ). IsPolynomial 65537 v) (values_of-slots_of p) (IsPolynomial-values_of moduli.T p)
+
+-- so is what packs any numbers
+packed_at-below : (v : ℕ → ℕ) (i : ℕ) → packed_at v i < 65537
+unfolding packed_at coefficient_from
+packed_at-below v i = omega arith
+
+pub packed-polynomial : (v : ℕ → ℕ) → IsPolynomial 65537 (packed v)
+unfolding packed
+packed-polynomial v = IsPolynomial-table 65537 (packed_at v) (λ k lt. packed_at-below v k)
 
 -- the slots of packed plaintexts are those plaintexts
 pub slots_of-packed_list : (v : List ℕ) → IsPolynomial 65537 v → slots_of (packed_list v) ≡ v

@@ -77,9 +77,6 @@ hidden_from m mask key error plain masked each =
     (ap (λ (u : ℕ). u % m) (each k lt) ∙ mod-mod (residue_of m (error k) + (m - product_at m 4096 mask (residues_of m key) k)) m)
     (ap (λ (u : ℕ). u % m) (slice_index-table 4096 (λ j. scale * get_or plain j 0 % m) k lt) ∙ mod-mod (scale * get_or plain k 0) m))
 
-pub IsPolynomial_wider : (low high : ℕ) (xs : List ℕ) → low ≤ high → IsPolynomial low xs → IsPolynomial high xs
-IsPolynomial_wider low high xs le h = record { size = h.size; below = λ i lt. omega (arith, h.below i lt) }
-
 pub plain-below : (m : Modulus) → 65537 ≤ modulus_of m
 plain-below moduli.Q1 = omega arith
 plain-below moduli.Q2 = omega arith

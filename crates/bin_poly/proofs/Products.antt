@@ -123,7 +123,7 @@ without-first : (a : ℕ) (roots : List ℕ) → without a (a ∷ roots) ≡ roo
 unfolding without
 without-first a roots = ap (λ (b : Bool). cond b roots (a ∷ without a roots)) (eq-eqb a a refl)
 
-without-other : (a b : ℕ) (roots : List ℕ) → (a ≡ b → ⊥) → without a (b ∷ roots) ≡ b ∷ without a roots
+pub without-other : (a b : ℕ) (roots : List ℕ) → (a ≡ b → ⊥) → without a (b ∷ roots) ≡ b ∷ without a roots
 unfolding without
 without-other a b roots other = ap (λ (c : Bool). cond c roots (b ∷ without a roots)) (ne_eqb a b other)
 

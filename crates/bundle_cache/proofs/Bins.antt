@@ -11,39 +11,9 @@ use Rattle.psi_residue.specs.Interpolation.{interpolated}
 use Rattle.label_interp.proofs.Lagrange.{interpolated-past}
 use Rattle.item_slots.specs.Tags.{parts, slot_value}
 use Rattle.psi_bundle.specs.declared.member.Member.{Member}
-use Rattle.psi_bundle.specs.Bins.{roots_of, shares_slot}
-use Rattle.bundle_cache.specs.Caches.{AreApart}
+use Rattle.psi_bundle.specs.Bins.{AreApart, roots_of}
+use Rattle.psi_bundle.proofs.BinChanges.{roots-distinct}
 use Rattle.bundle_cache.specs.Columns.{points_of}
-
-part-is : (j : ℕ) → j < 5 → get_or parts j 0 ≡ j
-part-is zero lt = refl
-part-is (suc zero) lt = refl
-part-is (suc (suc zero)) lt = refl
-part-is (suc (suc (suc zero))) lt = refl
-part-is (suc (suc (suc (suc zero)))) lt = refl
-part-is (suc (suc (suc (suc (suc j))))) lt = absurd (omega arith)
-
-shares_at : (a b : List ℕ) (part : ℕ) → part < 5 → slot_value a part ≡ slot_value b part → shares_slot a b ≡ true
-shares_at a b part lt same =
-    list_any_at (λ j. nat_eq (slot_value a j) (slot_value b j)) parts part 0 lt
-    (ap (λ (j : ℕ). nat_eq (slot_value a j) (slot_value b j)) (part-is part lt) ∙ eq-eqb (slot_value a part) (slot_value b part) same)
-
-no_member : Member
-no_member = record { tag = []; label = [] }
-
-values-differ : (bin : List Member) (part i j : ℕ) (d : Member) → AreApart bin → part < 5 → i < j → j < length bin
-    → slot_value (get_or bin i d).tag part ≢ slot_value (get_or bin j d).tag part
-values-differ bin part i j d apart lt before within same =
-    false≢true (sym (apart i j d before within) ∙ shares_at (get_or bin i d).tag (get_or bin j d).tag part lt same)
-
--- the roots of a part are distinct
-roots-distinct : (bin : List Member) (part : ℕ) → AreApart bin → part < 5 → IsDistinct nat_eq (roots_of bin part)
-roots-distinct bin part apart lt =
-    IsDistinct-from_AllPairs Decides-eqb (roots_of bin part)
-    (λ i j d before within same.
-    let size = length-map bin (λ (m : Member). slot_value m.tag part) in
-    values-differ bin part i j no_member apart lt before (omega (arith, size))
-    (sym (get_or-map (λ m. slot_value m.tag part) bin i no_member d (omega (arith, size))) ∙ same ∙ get_or-map (λ m. slot_value m.tag part) bin j no_member d (omega (arith, size))))
 
 -- the first numbers of the points are the roots
 points-places : (bin : List Member) (part unit : ℕ) → map (λ q. q.0) (points_of bin part unit) ≡ roots_of bin part

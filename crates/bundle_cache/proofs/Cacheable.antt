@@ -11,10 +11,10 @@ use Rattle.std.specs.FinMap as fin
 use Rattle.std.proofs.lemmas.List.{get_or_default, get_or_past, get_or-replicate, get_or-set_same, get_or-set_other, length-append, length-replicate, length-set}
 use Rattle.psi_residue.specs.Parameters.{Parameters}
 use Rattle.psi_bundle.specs.declared.member.Member.{Member}
-use Rattle.psi_bundle.specs.Bins.{accepts, bin_at, empty_bins, shares_slot}
+use Rattle.psi_bundle.specs.Bins.{AreApart, accepts, bin_at, empty_bins, shares_slot}
 use Rattle.psi_bundle.proofs.BinChanges.{accepted-apart}
 use Rattle.psi_bundle.specs.Versions.{HasLabelLength, Version, row_at, bins_at, IsSound}
-use Rattle.bundle_cache.specs.Caches.{AreApart, IsCacheable}
+use Rattle.bundle_cache.specs.Caches.{IsCacheable}
 
 pub sound-cacheable : (v : Version) (r u : ℕ) → IsSound v → IsCacheable v.parameters (bins_at (row_at v.rows r) u)
 sound-cacheable v r u sound = record {

@@ -17,6 +17,7 @@ use Rattle.psi_residue.proofs.Moduli.{modulus-positive}
 use Rattle.psi_residue.proofs.Polynomials.{IsPolynomial-table}
 use Rattle.psi_residue.proofs.Sums.{sum_below-times, sum_below-more, length-table, slice_index-table, same_as_table, table-same}
 use Rattle.bfv_core.proofs.FourLists.{four_from}
+use Rattle.bfv_core.proofs.Scaling.{plain-below}
 use Rattle.negacyclic.specs.Laws.{sum_modulo}
 use Rattle.negacyclic.specs.Transforms.{values_of, polynomial_of, with_products}
 use Rattle.negacyclic.proofs.TransformLaws.{length-values_of, get_or-values_of, value-same, values_of_products, polynomial_of-values_of}
@@ -43,17 +44,8 @@ value-scaled m n x c p r j h =
 -- ---- polynomials
 
 -- a plaintext is a polynomial modulo each modulus
-plain-below : (m : Modulus) → 65537 ≤ modulus_of m
-plain-below moduli.Q1 = omega arith
-plain-below moduli.Q2 = omega arith
-plain-below moduli.T = omega arith
-
 pub plain-polynomial : (m : Modulus) (xs : List ℕ) → IsPolynomial 65537 xs → IsPolynomial (modulus_of m) xs
 plain-polynomial m xs plain = record { size = plain.size; below = λ i lt. let few = plain-below m in let small = plain.below i lt in omega (arith, few, small) }
-
-pub packed-plain : (v : ℕ → ℕ) → IsPolynomial 65537 (packed v)
-unfolding packed packed_at coefficient_from
-packed-plain v = IsPolynomial-table 65537 (packed_at v) (λ k lt. mod-lt _ (omega arith))
 
 pub evaluated-polynomial : (m : Modulus) (of_c0 : Bool) (count : ℕ) (factors lists : ℕ → List ℕ) → IsPolynomial (modulus_of m) (table 4096 (evaluated_at (modulus_of m) of_c0 count factors lists))
 unfolding evaluated_at

@@ -16,6 +16,7 @@ use Rattle.negacyclic.proofs.TransformLaws.{coefficient-same, zeros-any}
 use Rattle.psi_bundle.specs.declared.member.Member.{Member}
 use Rattle.psi_bundle.specs.Bins.{bin_at, roots_of}
 use Rattle.psi_bundle.specs.Planes.{label_points, one_coefficient, packed_plane, part_coefficient, slot_coefficient}
+use Rattle.psi_bundle.proofs.Planes.{slot_coefficient-below}
 use Rattle.bundle_cache.specs.Caches.{transforms_of}
 use Rattle.bundle_cache.specs.Columns.{AreCells, AreColumns, AreFilled, IsWritten, coefficient_at, column, row_of_column}
 
@@ -93,35 +94,6 @@ filled-all p bins plane slot columns all h only = record {
 pub slot-part : (p : Parameters) (bins : List (List Member)) (plane slot k : ℕ) → slot < 4095 → slot_coefficient p bins plane slot k ≡ part_coefficient p (bin_at bins (slot / 5)) plane (slot % 5) k
 unfolding slot_coefficient
 slot-part p bins plane slot k lt = let test : nat_lt slot 4095 ≡ true = lt-ltb slot 4095 lt in rw test refl
-
--- ---- they are plaintexts
-
-root_coefficient-below : (roots : List ℕ) (k : ℕ) → root_coefficient roots k < 65537
-unfolding root_coefficient
-root_coefficient-below [] zero = omega arith
-root_coefficient-below [] (suc k) = omega arith
-root_coefficient-below (a ∷ roots) zero = mod-lt ((65537 - a) * root_coefficient roots zero) (omega arith)
-root_coefficient-below (a ∷ roots) (suc k) = mod-lt (root_coefficient roots k + (65537 - a) * root_coefficient roots (suc k)) (omega arith)
-
-interpolated-below : (points : List (ℕ × ℕ)) (k : ℕ) → interpolated points k < 65537
-unfolding interpolated
-interpolated-below points k = mod-lt _ (omega arith)
-
-part_coefficient-below : (p : Parameters) (bin : List Member) (plane part k : ℕ) → part_coefficient p bin plane part k < 65537
-part_coefficient-below p bin zero part k = root_coefficient-below (roots_of bin part) k
-part_coefficient-below p bin (suc unit) part k = interpolated-below (label_points p bin part unit) k
-
-one_coefficient-below : (k : ℕ) → one_coefficient k < 65537
-one_coefficient-below zero = omega arith
-one_coefficient-below (suc k) = omega arith
-
-pub slot_coefficient-below : (p : Parameters) (bins : List (List Member)) (plane slot k : ℕ) → slot_coefficient p bins plane slot k < 65537
-unfolding slot_coefficient
-slot_coefficient-below p bins plane slot k = chosen (nat_lt slot 4095)
-  where
-    chosen : (b : Bool) → (if b then part_coefficient p (bin_at bins (slot / 5)) plane (slot % 5) k else one_coefficient k) < 65537
-    chosen true = part_coefficient-below p (bin_at bins (slot / 5)) plane (slot % 5) k
-    chosen false = one_coefficient-below k
 
 -- ---- columns
 

@@ -1,19 +1,15 @@
 -- A bundle's planes as transforms, one row for each coefficient of each plane, and what a bundle must be so that they can be made.
-use Rattle.std.specs.Prelude.{◌≡◌, IsFalse, ℕ, ◌+◌, ◌*◌, ◌/◌, ◌%◌, ◌≤◌, List, [], ◌++◌, length, map, Option, Some, None}
-use Rattle.std.specs.List.{All, AllPairs, range_with_len}
+use Rattle.std.specs.Prelude.{◌≡◌, ℕ, ◌+◌, ◌*◌, ◌/◌, ◌%◌, ◌≤◌, List, [], ◌++◌, length, map, Option, Some, None}
+use Rattle.std.specs.List.{All, range_with_len}
 use Rattle.psi_residue.specs.declared.numbers.Modulus.TheVariants as moduli
 use Rattle.psi_residue.specs.Parameters.{Parameters, parameter_bytes}
 use Rattle.negacyclic.specs.Transforms.{values_of}
 use Rattle.noise_ledger.specs.Verdicts.{ArePassed}
 use Rattle.psi_bundle.specs.declared.member.Member.{Member}
-use Rattle.psi_bundle.specs.Bins.{bin_at, shares_slot}
+use Rattle.psi_bundle.specs.Bins.{AreApart, bin_at}
 use Rattle.psi_bundle.specs.Planes.{packed_plane, planes_of_bundle}
 use Rattle.psi_bundle.specs.Versions.{HasLabelLength}
 use Rattle.row_block.specs.Rows.{Block}
-
--- no two members share a slot value in the same part
-abbrev pub AreApart : List Member → Type 0
-AreApart members = AllPairs (λ m other. IsFalse (shares_slot m.tag other.tag)) members
 
 -- each bin has no more members than the capacity, no two of which share a slot value in the same part, and the labels have the length
 -- of the set's labels: so it is with each bundle of a sound version

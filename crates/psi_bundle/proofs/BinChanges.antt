@@ -1,27 +1,29 @@
 -- Bins with one member more, with one member less and with another label, and the roots of their parts.
-use Rattle.std.proofs.Common.{◌≡◌, ℕ, suc, ◌^◌, ◌<◌, Bool, true, false, cond, not, ◌||◌, List, [], ◌∷◌, ◌++◌, length, map, slice_index, get_or, nat_lt, AllPairs, IsFalse, nat_eq, Decides, inl, inr, refl, sym, ap, subst, ◌∙◌, arith}
-use Rattle.std.specs.List.{All, AllByRecursion, Any, list_any}
+use Rattle.std.proofs.Common.{◌≡◌, ◌≢◌, ℕ, suc, ◌^◌, ◌<◌, Bool, true, false, cond, not, ◌||◌, List, [], ◌∷◌, ◌++◌, length, map, slice_index, get_or, nat_lt, AllPairs, IsFalse, nat_eq, Decides, inl, inr, refl, sym, ap, subst, ◌∙◌, arith}
+use Rattle.std.specs.List.{All, AllByRecursion, Any, IsDistinct, list_any}
 use Rattle.std.proofs.lemmas.Bool.{cases_Bool, cond-true, cond-false, or_parts, and_parts, not-true, true≢false, false≢true, eq-eqb}
+use Rattle.std.proofs.lemmas.Bool.Decides.{Decides-eqb}
 use Rattle.std.proofs.lemmas.List.{get_or-map, length-map, map_push}
 use Rattle.std.proofs.lemmas.List.Elements.{All-from_recursion, recursion_from_All}
 use Rattle.std.proofs.lemmas.List.Folds.{Any-from_list_any, list_any_at}
 use Rattle.std.proofs.lemmas.List.Kept.{AllPairs-filter}
 use Rattle.std.proofs.lemmas.List.Quantifiers.{all_pairs_push}
+use Rattle.std.proofs.lemmas.Map.Made.{IsDistinct-from_AllPairs}
 use Rattle.std.proofs.lemmas.Slice.Eq.{bytes_eq-Decides}
 use Rattle.psi_residue.specs.Numbers.{plain_modulus}
 use Rattle.psi_residue.specs.Polynomials.{value_at}
 use Rattle.psi_bundle.specs.declared.member.Member.{Member}
 use Rattle.item_slots.specs.Tags.{slot_value, slot_values, parts}
-use Rattle.psi_bundle.specs.Bins.{same_tag, shares_slot, accepts, holds, without, relabelled, roots_of}
+use Rattle.psi_bundle.specs.Bins.{AreApart, same_tag, shares_slot, accepts, holds, without, relabelled, roots_of}
 use Rattle.psi_bundle.specs.KeptPolynomials.{EachPart, GainsRoot, LosesRoot, IsRootPolynomial, polynomial_at, KeepsPolynomials}
 use Rattle.psi_bundle.proofs.RootChanges.{IsWithout, IsWithout-first, IsWithout-later, each_part, one-root_polynomial, root_polynomial-more, root_polynomial-less, value-at_gone}
 
 -- ---- tags
 
-same_tag-Decides : (a b : List ℕ) → Decides (same_tag a b) (a ≡ b)
+pub same_tag-Decides : (a b : List ℕ) → Decides (same_tag a b) (a ≡ b)
 same_tag-Decides a b = bytes_eq-Decides a b
 
-part_at : EachPart (λ j. get_or parts j 0 ≡ j)
+pub part_at : EachPart (λ j. get_or parts j 0 ≡ j)
 part_at = each_part (λ j. get_or parts j 0 ≡ j) refl refl refl refl refl
 
 -- tags that share no slot value differ in each part
@@ -39,8 +41,22 @@ apart-two_tags a b tag apart is =
       | inr other ↦ other
     ]
 
-abbrev pub AreApart : List Member → Type 0
-AreApart bin = AllPairs (λ m other. IsFalse (shares_slot m.tag other.tag)) bin
+-- members of one bin differ in each part
+no_member : Member
+no_member = record { tag = []; label = [] }
+
+pub values-differ : (bin : List Member) (part i j : ℕ) (d : Member) → AreApart bin → part < 5 → i < j → j < length bin
+    → slot_value (get_or bin i d).tag part ≢ slot_value (get_or bin j d).tag part
+values-differ bin part i j d apart lt before within = apart-differ (get_or bin i d).tag (get_or bin j d).tag (apart i j d before within) part lt
+
+-- so the roots of a part are distinct
+pub roots-distinct : (bin : List Member) (part : ℕ) → AreApart bin → part < 5 → IsDistinct nat_eq (roots_of bin part)
+roots-distinct bin part apart lt =
+    IsDistinct-from_AllPairs Decides-eqb (roots_of bin part)
+    (λ i j d before within same.
+    let size = length-map bin (λ (m : Member). slot_value m.tag part) in
+    values-differ bin part i j no_member apart lt before (omega (arith, size))
+    (sym (get_or-map (λ m. slot_value m.tag part) bin i no_member d (omega (arith, size))) ∙ same ∙ get_or-map (λ m. slot_value m.tag part) bin j no_member d (omega (arith, size))))
 
 apart-first : (m : Member) (ms : List Member) → AreApart (m ∷ ms) → All (λ other. shares_slot m.tag other.tag ≡ false) ms
 apart-first m ms h k d lt = h 0 (suc k) d (omega arith) (omega arith)
@@ -112,17 +128,17 @@ values-left P tag j (m ∷ ms) all =
       | inr other ↦ subst (λ (bin : List Member). AllByRecursion P (roots_of bin j)) (sym (without-kept m ms tag other)) (all.0, values-left P tag j ms all.1)
     ]
 
-apart-without : (bin : List Member) (tag : List ℕ) → AreApart bin → AreApart (without bin tag)
+pub apart-without : (bin : List Member) (tag : List ℕ) → AreApart bin → AreApart (without bin tag)
 unfolding without
 apart-without bin tag h = AllPairs-filter (λ m other. IsFalse (shares_slot m.tag other.tag)) (λ m. not (same_tag m.tag tag)) bin h
 
 -- ---- another label
 
-with_label : List ℕ → List ℕ → Member → Member
+-- a member, with the label if it has the tag
+abbrev pub with_label : List ℕ → List ℕ → Member → Member
 with_label tag label m = cond (same_tag m.tag tag) (record m { label = label }) m
 
-with_label-tag : (tag label : List ℕ) (m : Member) → (with_label tag label m).tag ≡ m.tag
-unfolding with_label
+pub with_label-tag : (tag label : List ℕ) (m : Member) → (with_label tag label m).tag ≡ m.tag
 with_label-tag tag label m = chosen (same_tag m.tag tag)
   where
     chosen : (t : Bool) → (cond {A = Member} t (record m { label = label }) m).tag ≡ m.tag
@@ -130,14 +146,14 @@ with_label-tag tag label m = chosen (same_tag m.tag tag)
     chosen false = refl
 
 roots-relabelled : (bin : List Member) (tag label : List ℕ) (j : ℕ) → roots_of (relabelled bin tag label) j ≡ roots_of bin j
-unfolding relabelled with_label
+unfolding relabelled
 roots-relabelled [] tag label j = refl
 roots-relabelled (m ∷ ms) tag label j =
     ap (λ (t : List ℕ). slot_value t j ∷ roots_of (relabelled ms tag label) j) (with_label-tag tag label m)
     ∙ ap (λ (roots : List ℕ). slot_value m.tag j ∷ roots) (roots-relabelled ms tag label j)
 
-apart-relabelled : (bin : List Member) (tag label : List ℕ) → AreApart bin → AreApart (relabelled bin tag label)
-unfolding relabelled with_label
+pub apart-relabelled : (bin : List Member) (tag label : List ℕ) → AreApart bin → AreApart (relabelled bin tag label)
+unfolding relabelled
 apart-relabelled bin tag label h i j d before within =
     let f : Member → Member = with_label tag label in
     let size : length (map f bin) ≡ length bin = length-map bin f in

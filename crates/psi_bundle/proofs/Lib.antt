@@ -1,3 +1,5 @@
 pub mod FirstFit
 pub mod RootChanges
 pub mod BinChanges
+pub mod Planes
+pub mod Steps

@@ -8,7 +8,7 @@ use Rattle.psi_residue.specs.Numbers.{plain_modulus}
 use Rattle.psi_residue.specs.Polynomials.{value_at}
 use Rattle.psi_residue.specs.RootPolynomials.{root_coefficient, root_value}
 use Rattle.bin_poly.specs.Roots.{HasRoots, without}
-use Rattle.bin_poly.proofs.Products.{root_to_front, starts-with_one, own-factor, value-of_product}
+use Rattle.bin_poly.proofs.Products.{root_to_front, starts-with_one, own-factor, value-of_product, without-other}
 use Rattle.psi_bundle.specs.KeptPolynomials.{IsReduced, GainsRoot, LosesRoot, IsRootPolynomial, EachPart, polynomial_at}
 
 pub each_part : (P : ℕ → Type 0) → P 0 → P 1 → P 2 → P 3 → P 4 → EachPart P
@@ -94,10 +94,6 @@ root_polynomial-more roots old new a has gains = record {
 pub without-first : (a b : ℕ) (roots : List ℕ) → a ≡ b → without a (b ∷ roots) ≡ roots
 unfolding without
 without-first a b roots same = ap (λ (t : Bool). cond t roots (b ∷ without a roots)) (eq-eqb a b same)
-
-pub without-other : (a b : ℕ) (roots : List ℕ) → (a ≡ b → ⊥) → without a (b ∷ roots) ≡ b ∷ without a roots
-unfolding without
-without-other a b roots other = ap (λ (t : Bool). cond t roots (b ∷ without a roots)) (ne_eqb a b other)
 
 -- the roots are the same list, less the first a; and a is one of the roots before
 pub record IsWithout (a : ℕ) (old new : List ℕ) : Type 0 where

@@ -1,6 +1,7 @@
 -- Bins of members, and when a bin accepts one more (Chen, Laine, Rindal, CCS 2017: simple hashing at the sender).
 use Rattle.std.specs.Prelude.{ℕ, Bool, not, List, [], length, map, filter, nat_lt, nat_eq, ◌&&◌, if◌then◌else◌, replicate, slice_index_or}
-use Rattle.std.specs.List.{list_any}
+use Rattle.std.specs.Bool.{IsFalse}
+use Rattle.std.specs.List.{AllPairs, list_any}
 use Rattle.std.specs.Cmp.Lexicographic.{pointwise}
 use Rattle.psi_bundle.specs.declared.member.Member.{Member}
 use Rattle.item_slots.specs.Tags.{slot_value, parts, bins_of_row}
@@ -12,6 +13,10 @@ same_tag a b = pointwise nat_eq a b
 -- two tags have one slot value in common, in the same part
 abbrev pub shares_slot : List ℕ → List ℕ → Bool
 shares_slot a b = list_any (λ j. nat_eq (slot_value a j) (slot_value b j)) parts
+
+-- no two members of a bin have one in common
+abbrev pub AreApart : List Member → Type 0
+AreApart bin = AllPairs (λ m other. IsFalse (shares_slot m.tag other.tag)) bin
 
 -- a bin with fewer members than the capacity accepts a tag that shares no slot value with any of them
 unfoldable pub accepts : ℕ → List Member → List ℕ → Bool

@@ -1,10 +1,10 @@
 -- The polynomials that a bin keeps beside its members: by part, the one with their slot values as roots (Chen, Laine, Rindal, CCS 2017).
-use Rattle.std.specs.Prelude.{◌≡◌, IsFalse, ℕ, ◌+◌, ◌<◌, ◌^◌, List, [], ◌∷◌, length, slice_index_or}
-use Rattle.std.specs.List.{All, AllPairs}
+use Rattle.std.specs.Prelude.{◌≡◌, ℕ, ◌+◌, ◌<◌, ◌^◌, List, [], ◌∷◌, length, slice_index_or}
+use Rattle.std.specs.List.{All}
 use Rattle.psi_residue.specs.Numbers.{plain_modulus}
 use Rattle.bin_poly.specs.Roots.{HasRoots, without}
 use Rattle.psi_bundle.specs.declared.member.Member.{Member}
-use Rattle.psi_bundle.specs.Bins.{shares_slot, roots_of}
+use Rattle.psi_bundle.specs.Bins.{AreApart, roots_of}
 
 -- coefficients modulo the plaintext modulus, at least one
 pub record IsReduced (coefficients : List ℕ) : Type 0 where
@@ -39,4 +39,4 @@ polynomial_at polynomials j = slice_index_or polynomials j []
 -- the polynomials are those of the members, no two of which share a slot value in the same part
 pub record KeepsPolynomials (members : List Member) (polynomials : List (List ℕ)) : Type 0 where
   pub parts : EachPart (λ j. IsRootPolynomial (roots_of members j) (polynomial_at polynomials j))
-  pub apart : AllPairs (λ m other. IsFalse (shares_slot m.tag other.tag)) members
+  pub apart : AreApart members

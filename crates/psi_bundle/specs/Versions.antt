@@ -1,13 +1,13 @@
 -- The versions of a labelled set, and where first fit puts a member (the rules of the set are this project's own).
-use Rattle.std.specs.Prelude.{◌≡◌, IsFalse, Some, ℕ, Bool, nat_eq, ◌+◌, ◌*◌, ◌/◌, ◌%◌, ◌≤◌, List, [], ◌∷◌, ◌++◌, length, map, if◌then◌else◌, slice_index_or, slice_set, replicate, max}
+use Rattle.std.specs.Prelude.{◌≡◌, Some, ℕ, Bool, nat_eq, ◌+◌, ◌*◌, ◌/◌, ◌%◌, ◌≤◌, List, [], ◌∷◌, ◌++◌, length, map, if◌then◌else◌, slice_index_or, slice_set, replicate, max}
 use Rattle.std.specs.Ordering.{nat_cmp}
 use Rattle.std.specs.Cmp.Lexicographic.{slice_cmp}
-use Rattle.std.specs.List.{flat_map, enumerate_from, All, AllPairs, Contains, count_by, sum, fold}
+use Rattle.std.specs.List.{flat_map, enumerate_from, All, Contains, count_by, sum, fold}
 use Rattle.std.specs.FinMap as fin
 use Rattle.psi_residue.specs.Parameters.{Parameters}
 use Rattle.psi_bundle.specs.declared.member.Member.{Member}
 use Rattle.item_slots.specs.Tags.{bins_of_row, positions_of}
-use Rattle.psi_bundle.specs.Bins.{accepts, holds, bin_at, empty_bins, same_tag, shares_slot}
+use Rattle.psi_bundle.specs.Bins.{AreApart, accepts, holds, bin_at, empty_bins, same_tag}
 
 -- labels by tag
 abbrev pub Labels : Type 0
@@ -125,6 +125,6 @@ pub record IsSound (v : Version) : Type 0 where
   -- what stands in a bin is a tag of the map with its label, at one of its positions
   pub nothing_else : (r u b : ℕ) (m : Member) → StandsIn v.rows r u b m → (fin.get v.labels m.tag ≡ Some m.label) × Contains (positions_of v.parameters.rows m.tag) (bins_of_row * r + b)
   pub within_capacity : (r u b : ℕ) → length (bin_at (bins_at (row_at v.rows r) u) b) ≤ v.parameters.capacity
-  pub apart : (r u b : ℕ) → AllPairs (λ m other. IsFalse (shares_slot m.tag other.tag)) (bin_at (bins_at (row_at v.rows r) u) b)
+  pub apart : (r u b : ℕ) → AreApart (bin_at (bins_at (row_at v.rows r) u) b)
   pub labelled : (tag label : List ℕ) → fin.get v.labels tag ≡ Some label → HasLabelLength v.parameters label
   pub limits : IsWithinLimits v.parameters v.rows

@@ -19,6 +19,7 @@ use Rattle.psi_bundle.specs.declared.history.Entry.{Entry}
 use Rattle.psi_bundle.specs.Versions.{Version}
 use Rattle.psi_bundle.specs.Steps.{step}
 use Rattle.psi_bundle.specs.Histories.{IsLegal, after, replay, version_at}
+use Rattle.psi_bundle.proofs.Steps.{count-step}
 use Rattle.query_codec.specs.Replies.{reply_body}
 use Rattle.psi_frames.specs.declared.reply.Reply.{Reply}
 use Rattle.psi_frames.specs.declared.reply.Reply.TheVariants as reply
@@ -29,7 +30,7 @@ use Rattle.psi_frames.specs.Served.{Exchange, Sent, exchanges, requests_of, text
 use Rattle.psi_frames.specs.OneLane.{HasByteCode, call_on, entries_by, lane_history, lane_next, lane_replies, lane_reply, reply_by, reply_of, version_by}
 use Rattle.psi_frames.proofs.Each.{each-vacuous, each-weaker}
 use Rattle.psi_frames.proofs.Placed.{IsCodedRight, some_place}
-use Rattle.psi_frames.proofs.Turns.{Turned, turned, answer-reply, body-reply, count-step, from-reply, no_refusal, place-reply, repack-tells}
+use Rattle.psi_frames.proofs.Turns.{Turned, turned, answer-reply, body-reply, from-reply, no_refusal, place-reply, repack-tells}
 use Rattle.psi_frames.proofs.Lanes.{addresses, lane, paired, paired-lane, places-kept, seconds}
 use Rattle.psi_frames.proofs.Following.{IsBehind, before, lane-behind, lane-follows, lane-from_count, numbered_from, seconds-numbered}
 

@@ -6,11 +6,12 @@ use Rattle.psi_residue.specs.Parameters.{Parameters}
 use Rattle.psi_bundle.specs.declared.history.Call.{Call}
 use Rattle.psi_bundle.specs.Versions.{Version}
 use Rattle.psi_bundle.specs.Steps.{step}
+use Rattle.psi_bundle.proofs.Steps.{count-step}
 use Rattle.psi_frames.specs.declared.request.Request.{Request}
 use Rattle.psi_frames.specs.Requests.{code_of}
 use Rattle.psi_frames.specs.Served.{Exchange, Sent, place_of, places_in, uncoded_of_round, address_of_reply, address_of_request, journal_limit}
 use Rattle.psi_frames.specs.OneLane.{call_on, reply_by, version_by, entries_by, lane_reply, lane_next, lane_replies, lane_history}
-use Rattle.psi_frames.proofs.Turns.{Turned, turned, place-reply, count-step, count-behind}
+use Rattle.psi_frames.proofs.Turns.{Turned, turned, place-reply, count-behind}
 
 -- requests with the numbers of their rounds, without these
 abbrev pub seconds : List (ℕ × Request) → List Request

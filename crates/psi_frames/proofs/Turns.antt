@@ -10,36 +10,13 @@ use Rattle.psi_bundle.specs.declared.history.Answer.{Answer}
 use Rattle.psi_bundle.specs.declared.history.Answer.TheVariants as answer
 use Rattle.psi_bundle.specs.Versions.{Version, Row, row_at, placed, planes_of, cells_of, greatest_stamp, packed_row, members_of_row}
 use Rattle.psi_bundle.specs.Steps.{Step, step, replace, add, remove, repack, next, unchanged, fits}
+use Rattle.psi_bundle.proofs.Steps.{count-step}
 use Rattle.psi_frames.specs.declared.reply.Reply.TheVariants as reply
 use Rattle.psi_frames.specs.declared.request.Request.{Request}
 use Rattle.psi_frames.specs.declared.request.Request.TheVariants as request
 use Rattle.psi_frames.specs.Requests.{call_of, code_of}
 use Rattle.psi_frames.specs.Served.{place_of, from_of, body_of, answer_of, journal_limit}
 use Rattle.psi_frames.specs.OneLane.{reply_of, call_on, version_by, entries_by}
-
--- of two steps to one count, either way
-one_count : (b : Bool) (x y : Step) (n : ℕ) → x.version.count ≡ n → y.version.count ≡ n → (if b then x else y).version.count ≡ n
-one_count true x y n p q = p
-one_count false x y n p q = q
-
-count-add : (v : Version) (tag label : List ℕ) (rows : List Row) → (add v tag label rows).version.count ≡ v.count + 1
-count-add v tag label rows =
-    one_count (fits v.parameters rows) (record { answer = answer.Added; version = next v (fin.insert v.labels tag label) rows })
-    (record { answer = answer.Full (planes_of v.parameters rows) (cells_of v.parameters rows); version = unchanged v }) (v.count + 1) refl refl
-
--- a step adds one to the count
-pub count-step : (v : Version) (c : Call) → (step v c).version.count ≡ v.count + 1
-unfolding step
-count-step v (call.Put tag label) =
-    let rows = placed v.parameters (v.count + 1) (record { tag = tag; label = label }) v.rows in
-    one_count (is_some (fin.get v.labels tag)) (replace v tag label) (add v tag label rows) (v.count + 1) refl (count-add v tag label rows)
-count-step v (call.Drop tag) =
-    one_count (is_some (fin.get v.labels tag)) (remove v tag) (record { answer = answer.Absent; version = unchanged v }) (v.count + 1) refl refl
-count-step v call.Ask = refl
-count-step v (call.Repack row from) =
-    let packed = packed_row v.parameters.capacity (v.count + 1) (members_of_row (row_at v.rows row)) in
-    one_count (nat_le (greatest_stamp (row_at v.rows row)) from) (repack v row packed)
-    (record { answer = answer.Moved (greatest_stamp (row_at v.rows row)); version = unchanged v }) (v.count + 1) refl refl
 
 -- the reply that tells an answer at a place: its place, its answer, its `from` and its body
 pub place-reply : (a : Answer) (n : ℕ) (body : List ℕ) → place_of (reply_of a n body) ≡ Some n

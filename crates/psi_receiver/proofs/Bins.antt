@@ -14,13 +14,10 @@ use Rattle.psi_residue.specs.Numbers.{plain_modulus}
 use Rattle.psi_residue.specs.Parameters.{Parameters}
 use Rattle.item_slots.specs.Tags.{parts, slot_value}
 use Rattle.psi_bundle.specs.declared.member.Member.{Member}
-use Rattle.psi_bundle.specs.Bins.{bin_at, roots_of, shares_slot}
+use Rattle.psi_bundle.specs.Bins.{AreApart, bin_at, roots_of}
 use Rattle.psi_bundle.specs.Histories.{AreBytes, HoldBytes}
 use Rattle.psi_bundle.specs.Versions.{Version, row_at, bins_at, HasLabelLength, IsSound}
-
--- no two members share a slot value
-abbrev pub AreApart : List Member → Type 0
-AreApart bin = AllPairs (λ m other. IsFalse (shares_slot m.tag other.tag)) bin
+use Rattle.psi_bundle.proofs.BinChanges.{roots-distinct, values-differ}
 
 -- what is known of a bin of a sound version
 pub record IsBin (p : Parameters) (bin : List Member) : Type 0 where
@@ -58,36 +55,6 @@ pub roots-small : (bin : List Member) (part : ℕ) → All (λ m. AreBytes m.tag
 roots-small bin part bytes =
     recursion_from_All (λ a. a < plain_modulus) (roots_of bin part)
     (All-map (λ a. a < plain_modulus) (λ m. slot_value m.tag part) bin (λ k d lt. slot_value-small (get_or bin k d).tag part (bytes k d lt)))
-
-pub part-is : (j : ℕ) → j < 5 → get_or parts j 0 ≡ j
-part-is zero lt = refl
-part-is (suc zero) lt = refl
-part-is (suc (suc zero)) lt = refl
-part-is (suc (suc (suc zero))) lt = refl
-part-is (suc (suc (suc (suc zero)))) lt = refl
-part-is (suc (suc (suc (suc (suc j))))) lt = absurd (omega arith)
-
-shares_at : (a b : List ℕ) (part : ℕ) → part < 5 → slot_value a part ≡ slot_value b part → shares_slot a b ≡ true
-shares_at a b part lt same =
-    list_any_at (λ j. nat_eq (slot_value a j) (slot_value b j)) parts part 0 lt
-    (ap (λ (j : ℕ). nat_eq (slot_value a j) (slot_value b j)) (part-is part lt) ∙ eq-eqb (slot_value a part) (slot_value b part) same)
-
-no_member : Member
-no_member = record { tag = []; label = [] }
-
-values-differ : (bin : List Member) (part i j : ℕ) (d : Member) → AreApart bin → part < 5 → i < j → j < length bin
-    → slot_value (get_or bin i d).tag part ≢ slot_value (get_or bin j d).tag part
-values-differ bin part i j d apart lt before within same =
-    false≢true (sym (apart i j d before within) ∙ shares_at (get_or bin i d).tag (get_or bin j d).tag part lt same)
-
--- the roots of a part are distinct
-pub roots-distinct : (bin : List Member) (part : ℕ) → AreApart bin → part < 5 → IsDistinct nat_eq (roots_of bin part)
-roots-distinct bin part apart lt =
-    IsDistinct-from_AllPairs Decides-eqb (roots_of bin part)
-    (λ i j d before within same.
-    let size = length-map bin (λ (m : Member). slot_value m.tag part) in
-    values-differ bin part i j no_member apart lt before (omega (arith, size))
-    (sym (get_or-map (λ m. slot_value m.tag part) bin i no_member d (omega (arith, size))) ∙ same ∙ get_or-map (λ m. slot_value m.tag part) bin j no_member d (omega (arith, size))))
 
 -- two members with one slot value are one
 pub one_member : (bin : List Member) (part i j : ℕ) (d : Member) → AreApart bin → part < 5 → i < length bin → j < length bin

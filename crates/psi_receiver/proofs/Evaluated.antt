@@ -23,7 +23,8 @@ use Rattle.psi_receiver.specs.declared.placement.Placed.{Placed}
 use Rattle.psi_receiver.specs.Queries.{bin_value, query_ciphertext, query_ciphertexts, powers_of, row_values}
 use Rattle.psi_receiver.proofs.Encryptions.{key-ternary, encrypted-ciphertext, encrypted-carries}
 use Rattle.psi_receiver.proofs.RootValues.{values-evaluated}
-use Rattle.psi_receiver.proofs.SlotValues.{packed-polynomial, plane-slot, query-slot}
+use Rattle.batching.proofs.Batches.{packed-polynomial}
+use Rattle.psi_receiver.proofs.SlotValues.{plane-slot, query-slot}
 
 -- the ciphertexts of a row, by their powers less 1, and what they carry
 abbrev row_ciphertext : Parameters → (seed : List ℕ) → List Placed → (row k : ℕ) → List (List ℕ)

@@ -20,7 +20,8 @@ use Rattle.psi_bundle.specs.Bins.{roots_of}
 use Rattle.psi_bundle.specs.Histories.{AreBytes}
 use Rattle.psi_bundle.specs.Planes.{label_points, label_value}
 use Rattle.psi_receiver.specs.Findings.{label_of, root_label}
-use Rattle.psi_receiver.proofs.Bins.{IsBin, HasRoot, roots-small, roots-distinct}
+use Rattle.psi_bundle.proofs.BinChanges.{roots-distinct}
+use Rattle.psi_receiver.proofs.Bins.{IsBin, HasRoot, roots-small}
 
 -- the first numbers of the points are the roots
 points-places : (p : Parameters) (bin : List Member) (part unit : ℕ) → map (λ q. q.0) (label_points p bin part unit) ≡ roots_of bin part

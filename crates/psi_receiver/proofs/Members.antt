@@ -15,7 +15,7 @@ use Rattle.cuckoo_place.specs.Placements.{IsPlacement}
 use Rattle.noise_ledger.specs.Verdicts.{ArePassed}
 use Rattle.query_codec.proofs.Pieces.{pieces}
 use Rattle.psi_bundle.specs.declared.member.Member.{Member}
-use Rattle.psi_bundle.specs.Bins.{bin_at, roots_of, same_tag}
+use Rattle.psi_bundle.specs.Bins.{AreApart, bin_at, roots_of, same_tag}
 use Rattle.psi_bundle.specs.Histories.{AreBytes, HoldBytes}
 use Rattle.psi_bundle.specs.Versions.{Row, Stamped, Version, row_at, bins_at, standing, IsSound}
 use Rattle.psi_receiver.specs.declared.found.Found.{Found}
@@ -23,7 +23,7 @@ use Rattle.psi_receiver.specs.declared.placement.Placed.{Placed}
 use Rattle.psi_receiver.specs.Findings.{bin_in, has_roots, root_label, found_label, found_at, found_item, found}
 use Rattle.psi_receiver.specs.Laws.{answer_to, item_at}
 use Rattle.psi_receiver.specs.Placements.{placed, placed_item, position_sets}
-use Rattle.psi_receiver.proofs.Bins.{AreApart, HasRoot, one_member, root-found, root-of_member}
+use Rattle.psi_receiver.proofs.Bins.{HasRoot, one_member, root-found, root-of_member}
 use Rattle.psi_receiver.proofs.Joined.{opened-found, placed-own}
 use Rattle.psi_receiver.proofs.Labels.{labels-same, root_label-is}
 use Rattle.psi_receiver.proofs.Strangers.{contains-later}

@@ -10,11 +10,10 @@ use Rattle.psi_residue.specs.Sums.{table}
 use Rattle.psi_residue.proofs.Sums.{sum_below-same, slice_index-table, table-same}
 use Rattle.batching.proofs.Batches.{slots_of-packed_list, slot-slots_of}
 use Rattle.psi_residue.proofs.Polynomials.{IsPolynomial-table}
-use Rattle.bin_poly.proofs.Products.{coefficient-below}
-use Rattle.label_interp.proofs.Lagrange.{interpolated-below}
 use Rattle.psi_bundle.specs.declared.member.Member.{Member}
 use Rattle.psi_bundle.specs.Bins.{bin_at, roots_of}
 use Rattle.psi_bundle.specs.Planes.{label_points, one_coefficient, part_coefficient, slot_coefficient, packed_plane}
+use Rattle.psi_bundle.proofs.Planes.{slot_coefficient-below}
 use Rattle.psi_receiver.specs.declared.placement.Placed.{Placed}
 use Rattle.psi_receiver.specs.Queries.{bin_value, query_value, powers_of, row_values}
 
@@ -30,14 +29,6 @@ coefficient-listed v i =
 packed-listed : (v : ℕ → ℕ) → packed v ≡ packed_list (table 4096 v)
 unfolding packed_list packed
 packed-listed v = table-same 4096 (packed_at v) (packed_at (λ j. get_or (table 4096 v) j 0)) (λ i lt. coefficient-listed v i)
-
-packed_at-below : (v : ℕ → ℕ) (i : ℕ) → packed_at v i < 65537
-unfolding packed_at coefficient_from
-packed_at-below v i = omega arith
-
-pub packed-polynomial : (v : ℕ → ℕ) → IsPolynomial 65537 (packed v)
-unfolding packed
-packed-polynomial v = IsPolynomial-table 65537 (packed_at v) (λ k lt. packed_at-below v k)
 
 pub slot-listed : (v : ℕ → ℕ) (s : ℕ) → ((j : ℕ) → j < 4096 → v j < 65537) → s < 4096 → slot_of (packed_list (table 4096 v)) s ≡ v s
 slot-listed v s below lt =
@@ -61,22 +52,6 @@ choose b x y e = ap (λ (t : Bool). if t then x else y) e
 
 -- ---- the slots of a plane
 
-one-below : (k : ℕ) → one_coefficient k < 65537
-one-below zero = omega arith
-one-below (suc k) = omega arith
-
-pub part-below : (p : Parameters) (bin : List Member) (plane part k : ℕ) → part_coefficient p bin plane part k < 65537
-part-below p bin zero part k = coefficient-below (roots_of bin part) k
-part-below p bin (suc unit) part k = interpolated-below (label_points p bin part unit) k
-
-either_below : (b : Bool) (x y : ℕ) → x < 65537 → y < 65537 → (if b then x else y) < 65537
-either_below b x y hx hy = elim b as (λ t. (if t then x else y) < 65537) [ true ↦ hx | false ↦ hy ]
-
-coefficient-small : (p : Parameters) (bins : List (List Member)) (plane k s : ℕ) → slot_coefficient p bins plane s k < 65537
-unfolding slot_coefficient
-coefficient-small p bins plane k s =
-    either_below (nat_lt s 4095) (part_coefficient p (bin_at bins (s / 5)) plane (s % 5) k) (one_coefficient k) (part-below p (bin_at bins (s / 5)) plane (s % 5) k) (one-below k)
-
 coefficient-of_bin : (p : Parameters) (bins : List (List Member)) (plane b j k : ℕ) → b < 819 → j < 5 → slot_coefficient p bins plane (5 * b + j) k ≡ part_coefficient p (bin_at bins b) plane j k
 unfolding slot_coefficient
 coefficient-of_bin p bins plane b j k within few =
@@ -87,7 +62,7 @@ coefficient-of_bin p bins plane b j k within few =
 -- slot 5·b + j of the packing of a plane's k-th coefficients
 pub plane-slot : (p : Parameters) (bins : List (List Member)) (plane b j k : ℕ) → b < 819 → j < 5 → slot_of (packed_plane p bins plane k) (5 * b + j) ≡ part_coefficient p (bin_at bins b) plane j k
 plane-slot p bins plane b j k within few =
-    slot-packed (λ s. slot_coefficient p bins plane s k) (5 * b + j) (λ s lt. coefficient-small p bins plane k s) (omega arith) ∙ coefficient-of_bin p bins plane b j k within few
+    slot-packed (λ s. slot_coefficient p bins plane s k) (5 * b + j) (λ s lt. slot_coefficient-below p bins plane s k) (omega arith) ∙ coefficient-of_bin p bins plane b j k within few
 
 -- ---- the slots of the query
 

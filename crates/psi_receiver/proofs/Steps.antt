@@ -14,7 +14,7 @@ use Rattle.psi_receiver.specs.declared.found.Found.{Found}
 use Rattle.psi_receiver.specs.Placements.{placed, placed_item}
 use Rattle.psi_receiver.specs.Queries.{part_value, bin_value}
 use Rattle.psi_receiver.specs.Openings.{Reply, opens_in, opened_at, opened_item, opened}
-use Rattle.psi_receiver.proofs.Bins.{part-is}
+use Rattle.psi_bundle.proofs.BinChanges.{part_at}
 
 pub range-more : (a n : ℕ) → range_with_len a (n + 1) ≡ range_with_len a n ++ (a + n) ∷ []
 range-more a n =
@@ -110,7 +110,7 @@ all_zero f h =
 
 pub one_not_zero : (f : ℕ → ℕ) (j : ℕ) → j < 5 → (f j ≡ 0 → ⊥) → list_all (λ part. nat_eq (f part) 0) parts ≡ false
 one_not_zero f j lt other =
-    list_all_at (λ part. nat_eq (f part) 0) parts j 0 lt (ap (λ (k : ℕ). nat_eq (f k) 0) (part-is j lt) ∙ ne_eqb (f j) 0 other)
+    list_all_at (λ part. nat_eq (f part) 0) parts j 0 lt (ap (λ (k : ℕ). nat_eq (f k) 0) (part_at j lt) ∙ ne_eqb (f j) 0 other)
 
 -- ---- what is placed at a position
 
@@ -133,7 +133,7 @@ unfolding bin_value
 bin_value-end placed i position part le = ap (λ (xs : List Placed). part_value (find (λ y. nat_eq y.position position) xs) part) (drop_all i placed le)
 
 slot_values-at : (tag : List ℕ) (part : ℕ) → part < 5 → get_or (slot_values tag) part 0 ≡ slot_value tag part
-slot_values-at tag part lt = get_or-map (slot_value tag) parts part 0 0 lt ∙ ap (slot_value tag) (part-is part lt)
+slot_values-at tag part lt = get_or-map (slot_value tag) parts part 0 0 lt ∙ ap (slot_value tag) (part_at part lt)
 
 pub slot_value-told : (tag values : List ℕ) (part x : ℕ) → values ≡ slot_values tag → part < 5 → x ≡ get_or values part 0 → x ≡ slot_value tag part
 slot_value-told tag values part x same lt here = here ∙ ap (λ (xs : List ℕ). get_or xs part 0) same ∙ slot_values-at tag part lt

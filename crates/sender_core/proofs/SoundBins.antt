@@ -8,8 +8,9 @@ use Rattle.std.proofs.lemmas.List.Kept.{AllPairs-filter}
 use Rattle.std.proofs.lemmas.List.Sums.{length-filter, count_by-le-length}
 use Rattle.psi_bundle.specs.declared.member.Member.{Member}
 use Rattle.psi_bundle.specs.Bins.{same_tag, shares_slot, holds, without, relabelled}
+use Rattle.psi_bundle.proofs.BinChanges.{same_tag-Decides, with_label, with_label-tag}
 use Rattle.sender_core.proofs.SoundLists.{none-any, filter_all, Contains-filter, passes_filter, Contains-map, map_fixed, AllPairs-map, count-filter, count-map}
-use Rattle.sender_core.proofs.SoundCells.{held, same_tag-Decides, same_tag-apart}
+use Rattle.sender_core.proofs.SoundCells.{held, same_tag-apart}
 use Rattle.sender_core.proofs.SoundChanged.{SparesOthers}
 
 -- a member with the tag
@@ -18,10 +19,6 @@ unfolding holds
 holds-tells bin tag e =
     let found : Any (λ (m : Member). same_tag m.tag tag ≡ true) bin = Any-from_list_any (λ m. same_tag m.tag tag) bin e in
     (found.1, (found.0, found.2, found.3), (same_tag-Decides found.1.tag tag).0 found.4)
-
--- no two members of a bin share a slot value
-abbrev pub AreApart : List Member → Type 0
-AreApart bin = AllPairs (λ m other. IsFalse (shares_slot m.tag other.tag)) bin
 
 -- ---- without the tag
 
@@ -46,10 +43,6 @@ length-without bin tag =
     let few = count_by-le-length (λ (m : Member). not (same_tag m.tag tag)) bin in
     omega arith
 
-pub apart-without : (bin : List Member) (tag : List ℕ) → AreApart bin → AreApart (without bin tag)
-unfolding without
-apart-without bin tag h = AllPairs-filter (λ m other. IsFalse (shares_slot m.tag other.tag)) (λ m. not (same_tag m.tag tag)) bin h
-
 -- another tag is held as often as before
 pub held-without : (bin : List Member) (tag other : List ℕ) → (other ≡ tag → ⊥) → held (without bin tag) other ≡ held bin other
 unfolding without
@@ -62,17 +55,6 @@ held-without bin tag other apart =
     turned false e = absurd (true≢false e)
 
 -- ---- with another label
-
--- a member, with the label if it has the tag
-abbrev pub with_label : List ℕ → List ℕ → Member → Member
-with_label tag label m = if same_tag m.tag tag then record m { label = label } else m
-
-pub with_label-tag : (tag label : List ℕ) (m : Member) → (with_label tag label m).tag ≡ m.tag
-with_label-tag tag label m = chosen (same_tag m.tag tag)
-  where
-    chosen : (t : Bool) → (cond {A = Member} t (record m { label = label }) m).tag ≡ m.tag
-    chosen true = refl
-    chosen false = refl
 
 unlabelled : (tag label : List ℕ) (bin : List Member) → AllByRecursion (λ m. same_tag m.tag tag ≡ false) bin → AllByRecursion (λ m. with_label tag label m ≡ m) bin
 unlabelled tag label [] h = tt
@@ -105,12 +87,6 @@ Contains-relabelled bin tag label m h =
 pub length-relabelled : (bin : List Member) (tag label : List ℕ) → length (relabelled bin tag label) ≡ length bin
 unfolding relabelled
 length-relabelled bin tag label = length-map bin (with_label tag label)
-
-pub apart-relabelled : (bin : List Member) (tag label : List ℕ) → AreApart bin → AreApart (relabelled bin tag label)
-unfolding relabelled
-apart-relabelled bin tag label h =
-    AllPairs-map (λ m other. IsFalse (shares_slot m.tag other.tag)) (with_label tag label) bin
-    (λ x y apart. ap (λ (t : List ℕ). shares_slot t (with_label tag label y).tag) (with_label-tag tag label x) ∙ ap (λ (t : List ℕ). shares_slot x.tag t) (with_label-tag tag label y) ∙ apart) h
 
 pub held-relabelled : (bin : List Member) (tag label other : List ℕ) → held (relabelled bin tag label) other ≡ held bin other
 unfolding relabelled

@@ -15,6 +15,7 @@ use Rattle.psi_bundle.specs.declared.member.Member.{Member}
 use Rattle.item_slots.specs.Tags.{bins_of_row}
 use Rattle.psi_bundle.specs.Bins.{same_tag, bin_at, empty_bins}
 use Rattle.psi_bundle.specs.Versions.{Labels, Stamped, Row, row_at, bins_at, standing}
+use Rattle.psi_bundle.proofs.BinChanges.{same_tag-Decides}
 use Rattle.sender_core.proofs.SoundLists.{count-none}
 
 -- ---- tags
@@ -22,9 +23,6 @@ use Rattle.sender_core.proofs.SoundLists.{count-none}
 -- the map's keys tie where tags are the same
 pub eq_by_cmp-tags : (a b : List ℕ) → eq_by_cmp (slice_cmp nat_cmp) a b ≡ same_tag a b
 eq_by_cmp-tags a b = is_eq-slice_cmp a b
-
-pub same_tag-Decides : (a b : List ℕ) → Decides (same_tag a b) (a ≡ b)
-same_tag-Decides a b = bytes_eq-Decides a b
 
 pub same_tag-apart : (a b : List ℕ) → (a ≡ b → ⊥) → same_tag a b ≡ false
 same_tag-apart a b apart = false_from_ne_true (same_tag a b) (λ e. apart ((same_tag-Decides a b).0 e))

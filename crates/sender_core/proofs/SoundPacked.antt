@@ -10,12 +10,11 @@ use Rattle.std.proofs.lemmas.List.Quantifiers.{all_pairs_remove}
 use Rattle.std.proofs.lemmas.List.Sums.{sum_by-append, fold-append}
 use Rattle.psi_bundle.specs.declared.member.Member.{Member}
 use Rattle.item_slots.specs.Tags.{bins_of_row}
-use Rattle.psi_bundle.specs.Bins.{accepts, same_tag, shares_slot, bin_at}
+use Rattle.psi_bundle.specs.Bins.{AreApart, accepts, same_tag, shares_slot, bin_at}
 use Rattle.psi_bundle.specs.Versions.{Stamped, Row, bins_at, standing, joined, first_fit, members_of_row, packed_row}
 use Rattle.sender_core.proofs.SoundLists.{count-cons, one_if}
 use Rattle.sender_core.proofs.SoundCells.{held, standing-cons}
 use Rattle.sender_core.proofs.SoundPlaced.{StaysOrJoins, joins-row, shaped-first_fit, weight, standing-bin, standing-other_bin}
-use Rattle.sender_core.proofs.SoundBins.{AreApart}
 
 -- ---- the members of one bin
 

@@ -9,14 +9,13 @@ use Rattle.psi_residue.specs.Parameters.{Parameters}
 use Rattle.psi_bundle.specs.declared.member.Member.{Member}
 use Rattle.psi_bundle.specs.declared.history.Call.TheVariants as call
 use Rattle.item_slots.specs.Tags.{bins_of_row}
-use Rattle.psi_bundle.specs.Bins.{accepts, bin_at}
+use Rattle.psi_bundle.specs.Bins.{AreApart, accepts, bin_at}
 use Rattle.psi_bundle.specs.Versions.{Version, Row, row_at, bins_at, standing, members_of_row, packed_row, greatest_stamp, IsSound}
 use Rattle.psi_bundle.specs.Steps.{step, repack}
 use Rattle.sender_core.specs.Soundness.{HasRoom}
 use Rattle.sender_core.proofs.SoundLists.{set-cases}
 use Rattle.sender_core.proofs.SoundCells.{cell}
 use Rattle.sender_core.proofs.SoundPlaced.{joined-within, joined-apart}
-use Rattle.sender_core.proofs.SoundBins.{AreApart}
 use Rattle.sender_core.proofs.SoundPacked.{of_bin, packed-each, shaped-packed, standing-packed, held-members, members-have, length-packed}
 use Rattle.sender_core.proofs.SoundSteps.{sound-unchanged, chosen-sound, BelongsAt}
 

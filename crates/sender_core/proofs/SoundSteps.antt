@@ -15,16 +15,18 @@ use Rattle.psi_bundle.specs.declared.history.Call.{Call}
 use Rattle.psi_bundle.specs.declared.history.Call.TheVariants as call
 use Rattle.item_slots.specs.Tags.{bins_of_row, positions_of}
 use Rattle.item_slots.proofs.PositionLaws.{positions-below, positions-rise}
-use Rattle.psi_bundle.specs.Bins.{same_tag, holds, without, relabelled}
+use Rattle.psi_bundle.specs.Bins.{AreApart, same_tag, holds, without, relabelled}
 use Rattle.psi_bundle.specs.Versions.{Version, Labels, Row, row_at, placed, changed, planes_of, cells_of, empty_version, greatest_stamp, IsWithinLimits, HasLabelLength, IsSound}
 use Rattle.psi_bundle.specs.Steps.{Step, step, next, unchanged, fits, replace, add, remove}
+use Rattle.psi_bundle.proofs.BinChanges.{apart-relabelled, apart-without, same_tag-Decides}
 use Rattle.sender_core.specs.Soundness.{HasRoom}
+use Rattle.sender_core.proofs.Entering.{fitted}
 use Rattle.sender_core.proofs.SoundLists.{some_value, no_value}
 use Rattle.sender_core.proofs.SoundPositions.{IsIn, IsIn-from_Contains, Contains-from_IsIn}
-use Rattle.sender_core.proofs.SoundCells.{cell, nothing, AreShaped, held, held-none, standing-same, standing-none, same_tag-Decides, same_tag-apart, get-insert_same, get-insert_other, get-remove_same, get-remove_other}
+use Rattle.sender_core.proofs.SoundCells.{cell, nothing, AreShaped, held, held-none, standing-same, standing-none, same_tag-apart, get-insert_same, get-insert_other, get-remove_same, get-remove_other}
 use Rattle.sender_core.proofs.SoundPlaced.{standing_at, placed-each, shaped-placed, standing-other_tags, standing-once, joined-within, joined-apart}
 use Rattle.sender_core.proofs.SoundChanged.{SparesOthers, changed-each, shaped-changed, lengths-changed}
-use Rattle.sender_core.proofs.SoundBins.{AreApart, holds-tells, without-spares, Contains-without, length-without, apart-without, held-without, relabelled-spares, Contains-relabelled, length-relabelled, apart-relabelled, held-relabelled}
+use Rattle.sender_core.proofs.SoundBins.{holds-tells, without-spares, Contains-without, length-without, held-without, relabelled-spares, Contains-relabelled, length-relabelled, held-relabelled}
 
 cases_tag : (a b : List ℕ) → (a ≡ b) ⊎ (a ≡ b → ⊥)
 cases_tag a b =
@@ -66,13 +68,9 @@ stands-nowhere v tag p h none =
 abbrev member : List ℕ → List ℕ → Member
 member tag label = record { tag = tag; label = label }
 
--- the rows after first fit
-abbrev rows_after : Version → List ℕ → List ℕ → List Row
-rows_after v tag label = placed v.parameters (v.count + 1) (member tag label) v.rows
-
 added-present : (v : Version) (tag label : List ℕ) → HasRoom v.parameters → IsSound v → fin.get v.labels tag ≡ None
     → (t l : List ℕ) → fin.get (fin.insert v.labels tag label) t ≡ Some l → (p : ℕ) → Contains (positions_of v.parameters.rows t) p
-    → standing_at (rows_after v tag label) p t ≡ 1
+    → standing_at (fitted v tag label) p t ≡ 1
 added-present v tag label room h none t l e p c =
     let n = v.parameters.rows in
     let ps = positions_of n tag in
@@ -82,8 +80,8 @@ added-present v tag label room h none t l e p c =
           let found : IsIn ps p = IsIn-from_Contains ps p (subst (λ s. Contains (positions_of n s) p) same c) in
           let once = standing-once v.parameters.capacity (v.count + 1) (member tag label) n ps v.rows p tag (shape v h) below (positions-rise n tag) found ((same_tag-Decides tag tag).1 refl) in
           let before = stands-nowhere v tag p h none in
-          let one : standing_at (rows_after v tag label) p tag ≡ 1 = once ∙ ap (λ (k : ℕ). k + 1) before in
-          subst (λ s. standing_at (rows_after v tag label) p s ≡ 1) (sym same) one
+          let one : standing_at (fitted v tag label) p tag ≡ 1 = once ∙ ap (λ (k : ℕ). k + 1) before in
+          subst (λ s. standing_at (fitted v tag label) p s ≡ 1) (sym same) one
       | inr other ↦
           standing-other_tags v.parameters.capacity (v.count + 1) (member tag label) n ps v.rows p t (shape v h) below (same_tag-apart tag t (λ f. other (sym f)))
           ∙ h.present t l (sym (get-insert_other v.labels tag label t other) ∙ e) p c
@@ -94,7 +92,7 @@ abbrev pub BelongsAt : ℕ → Labels → ℕ → ℕ → Member → Type 0
 BelongsAt n labels r b m = (fin.get labels m.tag ≡ Some m.label) × Contains (positions_of n m.tag) (bins_of_row * r + b)
 
 added-nothing_else : (v : Version) (tag label : List ℕ) → HasRoom v.parameters → IsSound v → fin.get v.labels tag ≡ None
-    → (r u b : ℕ) (m : Member) → Contains (cell (rows_after v tag label) r u b) m → BelongsAt v.parameters.rows (fin.insert v.labels tag label) r b m
+    → (r u b : ℕ) (m : Member) → Contains (cell (fitted v tag label) r u b) m → BelongsAt v.parameters.rows (fin.insert v.labels tag label) r b m
 added-nothing_else v tag label room h none =
     let n = v.parameters.rows in
     let labels : Labels = fin.insert v.labels tag label in
@@ -116,7 +114,7 @@ inserted-labelled v tag label h size t l e =
     ]
 
 pub sound-added : (v : Version) (tag label : List ℕ) → HasRoom v.parameters → IsSound v → fin.get v.labels tag ≡ None → HasLabelLength v.parameters label
-    → IsWithinLimits v.parameters (rows_after v tag label) → IsSound (next v (fin.insert v.labels tag label) (rows_after v tag label))
+    → IsWithinLimits v.parameters (fitted v tag label) → IsSound (next v (fin.insert v.labels tag label) (fitted v tag label))
 sound-added v tag label room h none size within =
     let capacity = v.parameters.capacity in
     let m = member tag label in
@@ -234,7 +232,7 @@ chosen-sound false a b h k = k refl
 pub sound-put : (v : Version) (tag label : List ℕ) → HasRoom v.parameters → IsSound v → HasLabelLength v.parameters label → IsSound (step v (call.Put tag label)).version
 unfolding step
 sound-put v tag label room h size =
-    let rows = rows_after v tag label in
+    let rows = fitted v tag label in
     chosen-sound (is_some (fin.get v.labels tag)) (replace v tag label) (add v tag label rows)
     (λ has. let old = some_value (fin.get v.labels tag) has in sound-replaced v tag label old.0 h old.1 size)
     (λ lacks. chosen-sound (fits v.parameters rows) _ _ (λ within. sound-added v tag label room h (no_value (fin.get v.labels tag) lacks) size (fits-tells v.parameters rows within)) (λ full. sound-unchanged v h))
@@ -256,8 +254,8 @@ chosen-parameters false a b p e f = f
 pub step-parameters : (v : Version) (c : Call) → (step v c).version.parameters ≡ v.parameters
 unfolding step
 step-parameters v (call.Put tag label) =
-    chosen-parameters (is_some (fin.get v.labels tag)) (replace v tag label) (add v tag label (rows_after v tag label)) v.parameters refl
-    (chosen-parameters (fits v.parameters (rows_after v tag label)) _ _ v.parameters refl refl)
+    chosen-parameters (is_some (fin.get v.labels tag)) (replace v tag label) (add v tag label (fitted v tag label)) v.parameters refl
+    (chosen-parameters (fits v.parameters (fitted v tag label)) _ _ v.parameters refl refl)
 step-parameters v (call.Drop tag) = chosen-parameters (is_some (fin.get v.labels tag)) (remove v tag) _ v.parameters refl refl
 step-parameters v call.Ask = refl
 step-parameters v (call.Repack row from) = chosen-parameters (leb (greatest_stamp (row_at v.rows row)) from) _ _ v.parameters refl refl

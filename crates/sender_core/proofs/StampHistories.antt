@@ -10,9 +10,10 @@ use Rattle.std.proofs.Math.Seq.{take-length}
 use Rattle.psi_bundle.specs.declared.history.Entry.{Entry}
 use Rattle.psi_bundle.specs.Versions.{Version, Row, Stamped, row_at, greatest_stamp}
 use Rattle.psi_bundle.specs.Histories.{after, replay, version_at}
+use Rattle.psi_bundle.proofs.Steps.{count-step}
 use Rattle.sender_core.specs.Kept.{IsStart}
 use Rattle.sender_core.specs.Stamps.{bundle_at, StampsTell, RowsStand, EqualStampsMeanEqualBundles}
-use Rattle.sender_core.proofs.StampSteps.{Grows, IsNew, Changes, step-rows, step-count, step-length}
+use Rattle.sender_core.proofs.StampSteps.{Grows, IsNew, Changes, step-rows, step-length}
 
 -- ---- beginnings of a history
 
@@ -31,7 +32,7 @@ version-end start es k same = ap (version_at start es) same ∙ version-all star
 
 count-replay : (start : Version) (es : List Entry) (n : ℕ) → start.count ≡ n → (replay start es).count ≡ n + length es
 count-replay start [] n h = omega (arith, h)
-count-replay start (e ∷ es) n h = omega (arith, count-replay (after start e) es (n + 1) (omega (arith, step-count start e.call, h)))
+count-replay start (e ∷ es) n h = omega (arith, count-replay (after start e) es (n + 1) (omega (arith, count-step start e.call, h)))
 
 pub length-replay : (start : Version) (es : List Entry) → length (replay start es).rows ≡ length start.rows
 length-replay start [] = refl

@@ -151,20 +151,6 @@ step-rows v (call.Repack q from) r =
     (new-set stamp v.rows q (packed_row v.parameters.capacity stamp ms) (new-packed stamp v.parameters.capacity ms [] (λ u b e. absurd (none-some b e))) r)
     (inl (grows-same stamp (row_at v.rows r)))
 
--- a step adds one to the number of entries
-count-chosen : (t : Bool) (a b : Step) (n : ℕ) → a.version.count ≡ n → b.version.count ≡ n → (if t then a else b).version.count ≡ n
-count-chosen true a b n p q = p
-count-chosen false a b n p q = q
-
-pub step-count : (v : Version) (c : Call) → (step v c).version.count ≡ v.count + 1
-unfolding step
-step-count v (call.Put tag label) =
-    count-chosen (is_some (fin.get v.labels tag)) (replace v tag label) _ (v.count + 1) refl
-    (count-chosen (fits v.parameters (placed v.parameters (v.count + 1) (record { tag = tag; label = label }) v.rows)) _ _ (v.count + 1) refl refl)
-step-count v (call.Drop tag) = count-chosen (is_some (fin.get v.labels tag)) (remove v tag) _ (v.count + 1) refl refl
-step-count v call.Ask = refl
-step-count v (call.Repack q from) = count-chosen (leb (greatest_stamp (row_at v.rows q)) from) (repack v q _) _ (v.count + 1) refl refl
-
 -- a step leaves the number of rows
 
 length-placed : (capacity stamp : ℕ) (m : Member) (ps : List ℕ) (rows : List Row) → length (fold (placed_at capacity stamp m) rows ps) ≡ length rows

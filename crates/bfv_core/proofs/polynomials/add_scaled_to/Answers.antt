@@ -3,7 +3,8 @@ use Rattle.psi_residue.specs.Numbers.{modulus_of, scale}
 use Rattle.psi_residue.specs.Polynomials.{IsPolynomial}
 use Rattle.psi_residue.proofs.Polynomials.{IsPolynomial-constant}
 use Rattle.psi_residue.proofs.Moduli.{modulus-positive}
-use Rattle.bfv_core.proofs.Scaling.{with_scales, plain-below, IsPolynomial_wider}
+use Rattle.negacyclic.proofs.Bounds.{IsPolynomial_wider}
+use Rattle.bfv_core.proofs.Scaling.{with_scales, plain-below}
 use Rattle.bfv_core.proofs.polynomials.add_scaled_to.Goals as goal
 
 pub returns-clause-sum : goal.returns-clause-sum

@@ -11,7 +11,8 @@ use Rattle.negacyclic.proofs.TransformLaws.{IsPolynomial-values_of}
 use Rattle.psi_bundle.specs.Planes.{packed_plane}
 use Rattle.bundle_cache.specs.Queries.{modulus_at, scaled_values}
 use Rattle.bundle_cache.proofs.Cells.{list_modulus-at}
-use Rattle.bundle_cache.proofs.Values.{list-evaluated, packed-plain, plain-polynomial, values-end, values-more, values-start}
+use Rattle.batching.proofs.Batches.{packed-polynomial}
+use Rattle.bundle_cache.proofs.Values.{list-evaluated, plain-polynomial, values-end, values-more, values-start}
 use Rattle.bundle_cache.proofs.evaluation.evaluate_list.Goals as goal
 
 pub mul_acc-requires-clause-sum : goal.mul_acc-requires-clause-sum
@@ -43,7 +44,7 @@ loop-k-preserved c =
     let below = subst (λ (q : Parameters). IsPolynomial (modulus_of m) (list_at (ciphertext_at c.args.powers.now.query (c.args.row * q.capacity + k)) c.args.list)) c.requires.query c.list.ensures.polynomial in
     c.mul_acc.ensures.sums
     ∙ (λ i. with_products (modulus_of (c.list_modulus-m.ensures i)) (c.loop-k.invariant i) (c.cell-factor.ensures.values i) (power i))
-    ∙ values-more m (nat_lt c.args.list 2) k factors lists (plain-polynomial m (factors (k + 1)) (packed-plain _)) below
+    ∙ values-more m (nat_lt c.args.list 2) k factors lists (plain-polynomial m (factors (k + 1)) (packed-polynomial _)) below
 
 pub returns-clause-evaluated : goal.returns-clause-evaluated
 returns-clause-evaluated c =
