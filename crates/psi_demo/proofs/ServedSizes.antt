@@ -28,6 +28,7 @@ use Rattle.psi_frames.specs.Served.{Exchange, IsEvaluated, IsRecorded, Sent, add
 use Rattle.psi_frames.proofs.FrameLaws.{length-frame}
 use Rattle.psi_frames.proofs.Following.{seconds-numbered}
 use Rattle.psi_frames.proofs.Lanes.{paired, seconds}
+use Rattle.psi_receiver.proofs.Joined.{small-counts}
 use Rattle.psi_demo.specs.Items.{demo_parameters}
 use Rattle.psi_demo.specs.Laws.{IsSoundAt, ServedTextsAreShort}
 use Rattle.psi_demo.proofs.ReplyFrames.{sent-body, sent-bytes, sent_frame}
