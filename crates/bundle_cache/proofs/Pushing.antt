@@ -1,5 +1,5 @@
 -- Rows that are made and pushed one after another.
-use Rattle.std.proofs.Common.{◌≡◌, ℕ, zero, suc, ◌+◌, ◌*◌, ◌<◌, ◌≤◌, List, [], ◌∷◌, ◌++◌, length, get_or, map, refl, ap, ◌∙◌, sym, subst, arith, zero-add}
+use Rattle.std.proofs.Common.{◌≡◌, ℕ, zero, suc, ◌+◌, ◌*◌, ◌<◌, List, [], ◌∷◌, ◌++◌, length, get_or, map, refl, ap, ◌∙◌, sym, subst, arith, zero-add}
 use Rattle.std.specs.Prelude.{Result, Ok, IfOk}
 use Rattle.std.specs.List.{All, AllZip, range_with_len}
 use Rattle.std.proofs.lemmas.List.{append_assoc, length-append, map-append}
@@ -8,7 +8,7 @@ use Rattle.psi_residue.specs.Slots.{packed_list}
 use Rattle.psi_residue.specs.Parameters.{Parameters}
 use Rattle.psi_bundle.specs.declared.member.Member.{Member}
 use Rattle.row_block.specs.Rows.{Block, cleared}
-use Rattle.bundle_cache.specs.Caches.{bundle_row, holding, transforms_of}
+use Rattle.bundle_cache.specs.Caches.{bundle_row, holding}
 use Rattle.bundle_cache.specs.Columns.{AreColumns, column, row_of_column}
 use Rattle.bundle_cache.proofs.Cells.{length-transforms_of, row-is}
 use Rattle.bundle_cache.proofs.Writing.{row_of_column-is}

@@ -1,21 +1,20 @@
 -- The evaluation of a polynomial at encrypted powers, by values at the odd powers of a modulus's root.
-use Rattle.std.proofs.Common.{◌≡◌, ℕ, zero, suc, Bool, true, false, ◌+◌, ◌*◌, ◌%◌, ◌^◌, ◌<◌, ◌≤◌, List, length, get_or, if◌then◌else◌, refl, ap, ◌∙◌, sym, arith}
+use Rattle.std.proofs.Common.{◌≡◌, ℕ, zero, suc, Bool, true, false, ◌+◌, ◌*◌, ◌%◌, ◌^◌, ◌<◌, List, length, get_or, if◌then◌else◌, refl, ap, ◌∙◌, sym, arith}
 use Rattle.std.specs.Prelude.{nat_lt}
 use Rattle.std.proofs.lemmas.Nat.{mul-mod_first, mul-mod_second}
-use Rattle.std.proofs.Math.Nat.{mod-lt, mod-add-mod, zero-mod}
+use Rattle.std.proofs.Math.Nat.{mod-lt, mod-add-mod}
 use Rattle.psi_residue.specs.declared.numbers.Modulus.{Modulus}
-use Rattle.psi_residue.specs.declared.numbers.Modulus.TheVariants as moduli
 use Rattle.psi_residue.specs.Numbers.{modulus_of, root_of, scale}
 use Rattle.psi_residue.specs.Polynomials.{IsPolynomial}
 use Rattle.psi_residue.specs.Ring.{product, product_at}
-use Rattle.psi_residue.specs.Slots.{value_at_odd, coefficient_from, packed, packed_at}
+use Rattle.psi_residue.specs.Slots.{value_at_odd}
 use Rattle.psi_residue.specs.Sums.{sum_below, table}
 use Rattle.psi_residue.specs.Ciphertexts.{list_at}
 use Rattle.psi_residue.specs.Evaluations.{evaluated, evaluated_at}
 use Rattle.psi_residue.proofs.Congruences.{sum_below-mod}
 use Rattle.psi_residue.proofs.Moduli.{modulus-positive}
 use Rattle.psi_residue.proofs.Polynomials.{IsPolynomial-table}
-use Rattle.psi_residue.proofs.Sums.{sum_below-times, sum_below-more, length-table, slice_index-table, same_as_table, table-same}
+use Rattle.psi_residue.proofs.Sums.{sum_below-times, sum_below-more, slice_index-table, same_as_table, table-same}
 use Rattle.bfv_core.proofs.FourLists.{four_from}
 use Rattle.bfv_core.proofs.Scaling.{plain-below}
 use Rattle.negacyclic.specs.Laws.{sum_modulo}

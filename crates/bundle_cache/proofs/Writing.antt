@@ -1,21 +1,18 @@
 -- A plane's coefficients side by side, written slot by slot.
-use Rattle.std.proofs.Common.{◌≡◌, ℕ, zero, suc, Bool, true, false, ◌+◌, ◌-◌, ◌*◌, ◌/◌, ◌%◌, ◌<◌, ◌≤◌, List, [], ◌∷◌, ◌++◌, length, get_or, set, take, drop, replicate, if◌then◌else◌, refl, ap, ◌∙◌, sym, subst, inl, inr, arith}
+use Rattle.std.proofs.Common.{◌≡◌, ℕ, zero, suc, Bool, true, false, ◌+◌, ◌*◌, ◌/◌, ◌%◌, ◌<◌, ◌≤◌, List, ◌++◌, length, get_or, set, take, drop, replicate, if◌then◌else◌, refl, ap, ◌∙◌, sym, subst, inl, inr, arith}
 use Rattle.std.specs.Prelude.{nat_lt}
 use Rattle.std.proofs.lemmas.Bool.{cases_eq, cases_lt, lt-ltb, le-ltb}
 use Rattle.std.proofs.lemmas.List.{get_or_past, get_or-drop, get_or-take, length-drop, length-take-le, get_or-set_same, get_or-set_other, length-replicate, length-set}
 use Rattle.std.proofs.lemmas.Grind.{get_or-set_at}
-use Rattle.std.proofs.Math.Nat.{mod-lt}
 use Rattle.std.proofs.Math.Seq.{take-append_seam}
-use Rattle.psi_residue.specs.Interpolation.{interpolated}
 use Rattle.psi_residue.specs.Numbers.{degree_inverse, root_inverse}
 use Rattle.psi_residue.specs.Parameters.{Parameters}
-use Rattle.psi_residue.specs.RootPolynomials.{root_coefficient}
 use Rattle.psi_residue.specs.Slots.{packed, packed_at, packed_list}
 use Rattle.psi_residue.proofs.Sums.{table-same}
 use Rattle.negacyclic.proofs.TransformLaws.{coefficient-same, zeros-any}
 use Rattle.psi_bundle.specs.declared.member.Member.{Member}
-use Rattle.psi_bundle.specs.Bins.{bin_at, roots_of}
-use Rattle.psi_bundle.specs.Planes.{label_points, one_coefficient, packed_plane, part_coefficient, slot_coefficient}
+use Rattle.psi_bundle.specs.Bins.{bin_at}
+use Rattle.psi_bundle.specs.Planes.{one_coefficient, packed_plane, part_coefficient, slot_coefficient}
 use Rattle.psi_bundle.proofs.Planes.{slot_coefficient-below}
 use Rattle.bundle_cache.specs.Caches.{transforms_of}
 use Rattle.bundle_cache.specs.Columns.{AreCells, AreColumns, AreFilled, IsWritten, coefficient_at, column, row_of_column}

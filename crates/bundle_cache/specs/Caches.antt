@@ -1,5 +1,5 @@
 -- A bundle's planes as transforms, one row for each coefficient of each plane, and what a bundle must be so that they can be made.
-use Rattle.std.specs.Prelude.{◌≡◌, ℕ, ◌+◌, ◌*◌, ◌/◌, ◌%◌, ◌≤◌, List, [], ◌++◌, length, map, Option, Some, None}
+use Rattle.std.specs.Prelude.{◌≡◌, ℕ, ◌+◌, ◌*◌, ◌/◌, ◌%◌, ◌≤◌, List, ◌++◌, length, map}
 use Rattle.std.specs.List.{All, range_with_len}
 use Rattle.psi_residue.specs.declared.numbers.Modulus.TheVariants as moduli
 use Rattle.psi_residue.specs.Parameters.{Parameters, parameter_bytes}

@@ -6,7 +6,8 @@ ghost use Rattle.psi_residue.specs.Interpolation.{interpolated};
 ghost use Rattle.noise_ledger.specs.Verdicts.{parameters_of};
 ghost use Rattle.item_slots.specs.Tags.{slot_value};
 ghost use Rattle.psi_bundle.specs.Planes.{label_value};
-ghost use Rattle.bundle_cache.specs.Caches.{AreApart, IsCacheable};
+ghost use Rattle.psi_bundle.specs.Bins.{AreApart};
+ghost use Rattle.bundle_cache.specs.Caches.{IsCacheable};
 ghost use Rattle.bundle_cache.specs.Columns.{AreColumns, AreFilled, IsWritten, points_of};
 
 use byteorder::{BigEndian, ByteOrder};

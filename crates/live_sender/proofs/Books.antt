@@ -1,5 +1,5 @@
 -- What a book of some history shows, told by that history.
-use Rattle.std.proofs.Common.{◌≡◌, ℕ, zero, suc, ◌≤◌, ◌<◌, List, [], length, Option, Some, refl, sym, ap, ◌∙◌, subst, arith}
+use Rattle.std.proofs.Common.{◌≡◌, ℕ, List, [], length, Option, Some, refl, sym, ap, ◌∙◌, subst, arith}
 use Rattle.std.specs.Prelude.{slice_get, Result, IfOk}
 use Rattle.std.proofs.lemmas.List.{length-map}
 use Rattle.std.proofs.lemmas.Option.{same_Some}
@@ -7,21 +7,20 @@ use Rattle.std.proofs.lemmas.Result.{IfOk-weaker}
 use Rattle.psi_residue.specs.Parameters.{Parameters}
 use Rattle.psi_bundle.specs.declared.member.Member.{Member}
 use Rattle.psi_bundle.specs.declared.history.Entry.{Entry}
-use Rattle.psi_bundle.specs.Versions.{Version, Row, IsSound, row_at}
+use Rattle.psi_bundle.specs.Versions.{Version, IsSound}
 use Rattle.psi_bundle.specs.Histories.{replay, version_at}
 use Rattle.sender_core.specs.declared.install.Bare.{Bare}
 use Rattle.sender_core.specs.declared.install.Bare.TheVariants.{All, One}
-use Rattle.sender_core.specs.Kept.{Kept, Contents, View, RowSight, Job, row_of, rows_of, version_of, start_of, kept_row, kept_at, CacheSuits, IsConsistent}
+use Rattle.sender_core.specs.Kept.{Contents, View, Job, row_of, rows_of, version_of, kept_row, kept_at, CacheSuits, IsConsistent}
 use Rattle.sender_core.specs.Stamps.{bundle_at}
-use Rattle.sender_core.specs.Given.{IsViewOf, IsJobOf, row_sight_of, sight_of, bare_rows}
+use Rattle.sender_core.specs.Given.{IsJobOf, sight_of, bare_rows}
 use Rattle.sender_core.specs.Installs.{IsBareOf}
 use Rattle.sender_core.specs.Tries.{job_of}
-use Rattle.sender_core.proofs.RowLists.{row-alone}
 use Rattle.sender_core.proofs.StampHistories.{version-all}
 use Rattle.sender_core.proofs.Installing.{job-given}
 use Rattle.live_sender.specs.declared.origin.Origin.{Origin}
 use Rattle.live_sender.specs.Histories.{origin_of, first_version, IsHistory, IsBookOf}
-use Rattle.live_sender.specs.Turns.{ShowsAt, ViewsRow, IsGivenAt}
+use Rattle.live_sender.specs.Turns.{ShowsAt, IsGivenAt}
 use Rattle.live_sender.specs.Tries.{IsStanding}
 
 -- a bundle without a cache stands where its job says

@@ -1,5 +1,5 @@
 -- What is of the history that a seat has seen stays so as the seat goes on.
-use Rattle.std.proofs.Common.{◌≡◌, ℕ, ◌≤◌, ◌++◌, List, length, subst, sym, ap, ◌∙◌, arith, length-append}
+use Rattle.std.proofs.Common.{ℕ, List, subst, sym, ap, ◌∙◌, arith, length-append}
 use Rattle.psi_turnstile.specs.Counting.{IsPrefix}
 use Rattle.psi_bundle.specs.declared.member.Member.{Member}
 use Rattle.psi_bundle.specs.declared.history.Entry.{Entry}

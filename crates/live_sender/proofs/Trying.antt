@@ -1,5 +1,5 @@
 -- A cache that comes back to a book of some history.
-use Rattle.std.proofs.Common.{◌≡◌, ◌≢◌, ℕ, ◌≤◌, ◌<◌, ◌⊎◌, inl, inr, Bool, true, false, nat_eq, List, [], length, Option, Some, None, refl, sym, ap, ◌∙◌, subst, arith}
+use Rattle.std.proofs.Common.{◌≡◌, ◌≢◌, ℕ, ◌≤◌, ◌⊎◌, inl, inr, Bool, true, false, nat_eq, List, length, Option, Some, None, refl, sym, ap, ◌∙◌, subst, arith}
 use Rattle.std.specs.Prelude.{slice_get, if◌then◌else◌, Result, Ok, Err, IfOk, OnOk, OnErr}
 use Rattle.std.proofs.lemmas.List.{length-map}
 use Rattle.std.proofs.lemmas.Bool.{eqb-false}
@@ -7,13 +7,13 @@ use Rattle.std.proofs.lemmas.Result.{IfOk-weaker}
 use Rattle.std.proofs.lemmas.Option.{none-some, same_Some, slice_get_cases}
 use Rattle.psi_bundle.specs.declared.member.Member.{Member}
 use Rattle.psi_bundle.specs.declared.history.Entry.{Entry}
-use Rattle.psi_bundle.specs.Versions.{Version, Row, Stamped, row_at}
-use Rattle.psi_bundle.specs.Histories.{replay, version_at}
+use Rattle.psi_bundle.specs.Versions.{Version, Stamped, row_at}
+use Rattle.psi_bundle.specs.Histories.{replay}
 use Rattle.sender_core.specs.declared.receipt.Now.{Now}
 use Rattle.sender_core.specs.declared.receipt.Now.TheVariants.{Gone, Stamp}
 use Rattle.sender_core.specs.declared.install.Install.{Install}
 use Rattle.sender_core.specs.declared.install.Install.TheVariants.{Installed, Stale}
-use Rattle.sender_core.specs.Kept.{Kept, Contents, Job, stamped_of, row_of, rows_of, version_of, start_of, kept_row, IsStart, IsConsistent}
+use Rattle.sender_core.specs.Kept.{Kept, Contents, Job, stamped_of, start_of, kept_row, IsStart, IsConsistent}
 use Rattle.sender_core.specs.Stamps.{bundle_at}
 use Rattle.sender_core.specs.Given.{IsJobOf}
 use Rattle.sender_core.specs.Tries.{instead_of, now_at}

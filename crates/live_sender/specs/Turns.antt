@@ -1,5 +1,5 @@
 -- What a call of a sender tells the seat that made it.
-use Rattle.std.specs.Prelude.{◌≡◌, ℕ, ◌<◌, List, [], ◌∷◌, ◌++◌, length, Some}
+use Rattle.std.specs.Prelude.{◌≡◌, ℕ, List, [], ◌∷◌, ◌++◌, length}
 use Rattle.psi_turnstile.specs.declared.view.View.{View}
 use Rattle.psi_turnstile.specs.Knowing.{Follows, Keeps, Places}
 use Rattle.psi_turnstile.specs.Rule.{opener}

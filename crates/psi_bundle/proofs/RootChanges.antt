@@ -1,7 +1,7 @@
 -- One root more and one root less of a list of roots, and their polynomials.
 use Rattle.std.proofs.Common.{◌≡◌, ℕ, zero, suc, ◌+◌, ◌*◌, ◌-◌, ◌%◌, ◌^◌, ◌<◌, ◌≤◌, List, [], ◌∷◌, ◌++◌, length, slice_index, get_or, take, drop, cond, Bool, refl, ap, subst, ◌∙◌, sym, inl, inr, arith}
 use Rattle.std.specs.List.{All}
-use Rattle.std.proofs.lemmas.Bool.{cases_lt, eq-eqb, ne_eqb}
+use Rattle.std.proofs.lemmas.Bool.{cases_lt, eq-eqb}
 use Rattle.std.proofs.lemmas.List.{append-nil, take_all, drop_all, length-append, length-take-le, get_or-take, get_or_past, get_or_default}
 use Rattle.std.proofs.lemmas.List.Elements.{All-from_recursion, All-append, All-take}
 use Rattle.psi_residue.specs.Numbers.{plain_modulus}

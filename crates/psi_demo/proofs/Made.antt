@@ -1,22 +1,14 @@
 -- Small facts of the calls.
 use Rattle.std.proofs.Common.{◌≡◌, ℕ, ◌+◌, ◌*◌, ◌≤◌, Bool, cond, List, [], ◌∷◌, ◌++◌, length, count_by, Result, refl, sym, ap, ◌∙◌, subst, arith, append_assoc, length-append}
-use Rattle.std.specs.List.{All, range_with_len}
+use Rattle.std.specs.List.{range_with_len}
 use Rattle.std.specs.Result.{IfErr, IsErrAnd}
 use Rattle.std.proofs.lemmas.List.{length-take}
-use Rattle.std.proofs.lemmas.List.Elements.{All-map}
 use Rattle.std.proofs.lemmas.List.FromFn.{length-map-range_with_len, map-range_with_len_more}
 use Rattle.std.proofs.lemmas.List.Sums.{sum_by-append, sum_by-cons}
 use Rattle.std.proofs.lemmas.Result.{err_from_is_err_and}
 use Rattle.sha2.specs.Sha256.{sha256}
-use Rattle.psi_residue.specs.Ciphertexts.{IsCiphertext}
-use Rattle.psi_residue.specs.Parameters.{Parameters}
 use Rattle.noise_ledger.specs.Ledgers.{carry_of, noise_of, used_of}
 use Rattle.noise_ledger.specs.Verdicts.{ArePassed}
-use Rattle.query_codec.specs.Queries.{query_length}
-use Rattle.query_codec.proofs.QueryBodies.{IsQuery-written}
-use Rattle.psi_receiver.specs.declared.placement.Placed.{Placed}
-use Rattle.psi_receiver.specs.Queries.{IsQueryOf, query_ciphertext, query_ciphertexts}
-use Rattle.psi_receiver.proofs.Encryptions.{encrypted-ciphertext, length-query}
 use Rattle.psi_receiver.proofs.Steps.{range-more}
 use Rattle.psi_demo.specs.declared.fault.SumFault.{SumFault}
 use Rattle.psi_demo.specs.Items.{asked_tags, demo_parameters, item_of, item_tag, label_of, run}

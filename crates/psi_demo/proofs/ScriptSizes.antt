@@ -1,5 +1,5 @@
 -- How many requests a script has, and how many of them are asks.
-use Rattle.std.proofs.Common.{◌≡◌, ℕ, ◌+◌, ◌*◌, ◌≤◌, Bool, true, false, cond, not, nat_eq, List, [], ◌∷◌, ◌++◌, length, map, slice_index, count_by, Option, None, Some, refl, sym, ap, ◌∙◌, arith, length-append, if◌then◌else◌}
+use Rattle.std.proofs.Common.{◌≡◌, ℕ, ◌+◌, ◌*◌, ◌≤◌, Bool, true, false, cond, not, nat_eq, List, [], ◌∷◌, ◌++◌, length, map, slice_index, count_by, refl, sym, ap, ◌∙◌, arith, length-append, if◌then◌else◌}
 use Rattle.std.specs.List.{flat_map, range_with_len}
 use Rattle.std.proofs.lemmas.List.Sums.{count_by-le-length, sum_by-append, sum_by-cons}
 use Rattle.psi_residue.specs.Parameters.{Parameters}
@@ -8,7 +8,7 @@ use Rattle.psi_frames.specs.declared.frame.Frame.{Frame}
 use Rattle.psi_frames.specs.declared.request.Request.{Request}
 use Rattle.psi_frames.specs.declared.request.Request.TheVariants as request
 use Rattle.psi_frames.specs.Frames.{ask_kind, drop_kind, go_kind, put_kind}
-use Rattle.psi_frames.specs.Requests.{ask_request, asks_behind, count_asks, counted, drop_code, drop_request, is_ask, item_of, label_of, put_code, put_request, repack_code, repack_request, request_of, requests_from, unless_coded}
+use Rattle.psi_frames.specs.Requests.{ask_request, asks_behind, count_asks, counted, drop_code, drop_request, is_ask, item_of, label_of, put_code, put_request, repack_code, repack_request, request_of, requests_from}
 use Rattle.psi_frames.specs.Rounds.{request_rounds}
 use Rattle.psi_frames.specs.Served.{requests_of}
 use Rattle.psi_frames.proofs.RoundRequests.{no_ask-unless}

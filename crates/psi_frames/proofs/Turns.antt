@@ -1,15 +1,14 @@
 -- One turn of the one-thread sender: what a request makes of a version, its reply, and the count of entries behind it.
-use Rattle.std.specs.Prelude.{◌≡◌, ℕ, ◌+◌, ◌<◌, ◌≤◌, Bool, true, false, nat_lt, nat_le, is_some, List, length, Option, Some, None, IsSome, if◌then◌else◌}
+use Rattle.std.specs.Prelude.{◌≡◌, ℕ, ◌+◌, ◌<◌, ◌≤◌, Bool, true, false, nat_lt, nat_le, List, length, Option, Some, None, IsSome, if◌then◌else◌}
 use Rattle.std.proofs.Common.{refl, arith, inl, inr, ◌⊎◌}
 use Rattle.std.proofs.lemmas.Bool.{ltb-true}
 use Rattle.std.proofs.lemmas.Bool.Decides.{nat_tests}
-use Rattle.std.specs.FinMap as fin
 use Rattle.psi_bundle.specs.declared.history.Call.{Call}
 use Rattle.psi_bundle.specs.declared.history.Call.TheVariants as call
 use Rattle.psi_bundle.specs.declared.history.Answer.{Answer}
 use Rattle.psi_bundle.specs.declared.history.Answer.TheVariants as answer
-use Rattle.psi_bundle.specs.Versions.{Version, Row, row_at, placed, planes_of, cells_of, greatest_stamp, packed_row, members_of_row}
-use Rattle.psi_bundle.specs.Steps.{Step, step, replace, add, remove, repack, next, unchanged, fits}
+use Rattle.psi_bundle.specs.Versions.{Version, row_at, greatest_stamp, packed_row, members_of_row}
+use Rattle.psi_bundle.specs.Steps.{Step, step, repack, unchanged}
 use Rattle.psi_bundle.proofs.Steps.{count-step}
 use Rattle.psi_frames.specs.declared.reply.Reply.TheVariants as reply
 use Rattle.psi_frames.specs.declared.request.Request.{Request}

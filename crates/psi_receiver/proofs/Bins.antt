@@ -1,23 +1,20 @@
 -- The bins of a sound version: their members, by the slot values of a part.
-use Rattle.std.proofs.Common.{◌≡◌, ◌≢◌, ℕ, zero, suc, ◌+◌, ◌*◌, ◌<◌, ◌≤◌, Bool, true, cond, ◌||◌, List, [], ◌∷◌, length, get_or, Some, refl, ap, ◌∙◌, sym, inl, inr, arith}
+use Rattle.std.proofs.Common.{◌≡◌, ℕ, suc, ◌+◌, ◌*◌, ◌<◌, ◌≤◌, Bool, true, cond, ◌||◌, List, [], ◌∷◌, length, get_or, Some, refl, ap, ◌∙◌, sym, inl, inr, arith}
 use Rattle.std.specs.Prelude.{nat_eq}
-use Rattle.std.specs.Bool.{IsFalse}
 use Rattle.std.specs.FinMap as fin
-use Rattle.std.specs.List.{All, AllByRecursion, AllPairs, IsDistinct, find, list_any}
+use Rattle.std.specs.List.{All, AllByRecursion, find, list_any}
 use Rattle.std.proofs.lemmas.Bool.{cases_eq, cases_lt, eq-eqb, ne_eqb, false≢true}
-use Rattle.std.proofs.lemmas.Bool.Decides.{Decides-eqb}
 use Rattle.std.proofs.lemmas.List.{get_or_default, get_or-map, get_or-drop, length-map}
 use Rattle.std.proofs.lemmas.List.Elements.{All-map, recursion_from_All}
 use Rattle.std.proofs.lemmas.List.Folds.{list_any_at}
-use Rattle.std.proofs.lemmas.Map.Made.{IsDistinct-from_AllPairs}
 use Rattle.psi_residue.specs.Numbers.{plain_modulus}
 use Rattle.psi_residue.specs.Parameters.{Parameters}
-use Rattle.item_slots.specs.Tags.{parts, slot_value}
+use Rattle.item_slots.specs.Tags.{slot_value}
 use Rattle.psi_bundle.specs.declared.member.Member.{Member}
 use Rattle.psi_bundle.specs.Bins.{AreApart, bin_at, roots_of}
 use Rattle.psi_bundle.specs.Histories.{AreBytes, HoldBytes}
 use Rattle.psi_bundle.specs.Versions.{Version, row_at, bins_at, HasLabelLength, IsSound}
-use Rattle.psi_bundle.proofs.BinChanges.{roots-distinct, values-differ}
+use Rattle.psi_bundle.proofs.BinChanges.{values-differ}
 
 -- what is known of a bin of a sound version
 pub record IsBin (p : Parameters) (bin : List Member) : Type 0 where

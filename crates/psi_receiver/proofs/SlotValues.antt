@@ -1,9 +1,8 @@
 -- The slots of a query's plaintexts and of the packed coefficients of a bundle's planes.
-use Rattle.std.proofs.Common.{◌≡◌, ℕ, zero, suc, ◌+◌, ◌*◌, ◌/◌, ◌%◌, ◌^◌, ◌<◌, List, get_or, Bool, true, false, ap, ◌∙◌, sym, arith}
+use Rattle.std.proofs.Common.{◌≡◌, ℕ, ◌+◌, ◌*◌, ◌/◌, ◌%◌, ◌^◌, ◌<◌, List, get_or, Bool, true, ap, ◌∙◌, sym, arith}
 use Rattle.std.specs.Prelude.{if◌then◌else◌, nat_lt}
 use Rattle.std.proofs.lemmas.Bool.{lt-ltb}
 use Rattle.psi_residue.specs.Numbers.{root_inverse, degree_inverse}
-use Rattle.psi_residue.specs.Polynomials.{IsPolynomial}
 use Rattle.psi_residue.specs.Parameters.{Parameters}
 use Rattle.psi_residue.specs.Slots.{coefficient_from, slot_of, packed_at, packed, packed_list}
 use Rattle.psi_residue.specs.Sums.{table}
@@ -11,8 +10,8 @@ use Rattle.psi_residue.proofs.Sums.{sum_below-same, slice_index-table, table-sam
 use Rattle.batching.proofs.Batches.{slots_of-packed_list, slot-slots_of}
 use Rattle.psi_residue.proofs.Polynomials.{IsPolynomial-table}
 use Rattle.psi_bundle.specs.declared.member.Member.{Member}
-use Rattle.psi_bundle.specs.Bins.{bin_at, roots_of}
-use Rattle.psi_bundle.specs.Planes.{label_points, one_coefficient, part_coefficient, slot_coefficient, packed_plane}
+use Rattle.psi_bundle.specs.Bins.{bin_at}
+use Rattle.psi_bundle.specs.Planes.{one_coefficient, part_coefficient, slot_coefficient, packed_plane}
 use Rattle.psi_bundle.proofs.Planes.{slot_coefficient-below}
 use Rattle.psi_receiver.specs.declared.placement.Placed.{Placed}
 use Rattle.psi_receiver.specs.Queries.{bin_value, query_value, powers_of, row_values}

@@ -1,15 +1,14 @@
 -- Bins without a tag, and with another label for it.
-use Rattle.std.proofs.Common.{◌≡◌, ◌⊎◌, ℕ, ◌≤◌, Bool, true, false, cond, not, List, [], ◌∷◌, length, AllPairs, Contains, IsFalse, inl, inr, refl, sym, ap, ◌∙◌, arith, if◌then◌else◌}
+use Rattle.std.proofs.Common.{◌≡◌, ◌⊎◌, ℕ, ◌≤◌, Bool, true, false, not, List, [], ◌∷◌, length, Contains, inl, inr, refl, sym, ap, ◌∙◌, arith}
 use Rattle.std.specs.List.{AllByRecursion, Any}
 use Rattle.std.proofs.lemmas.Bool.{cases_Bool, not_from_false, not-true, cond-true, cond-false, true≢false}
 use Rattle.std.proofs.lemmas.List.{length-map}
 use Rattle.std.proofs.lemmas.List.Folds.{Any-from_list_any}
-use Rattle.std.proofs.lemmas.List.Kept.{AllPairs-filter}
 use Rattle.std.proofs.lemmas.List.Sums.{length-filter, count_by-le-length}
 use Rattle.psi_bundle.specs.declared.member.Member.{Member}
-use Rattle.psi_bundle.specs.Bins.{same_tag, shares_slot, holds, without, relabelled}
+use Rattle.psi_bundle.specs.Bins.{same_tag, holds, without, relabelled}
 use Rattle.psi_bundle.proofs.BinChanges.{same_tag-Decides, with_label, with_label-tag}
-use Rattle.sender_core.proofs.SoundLists.{none-any, filter_all, Contains-filter, passes_filter, Contains-map, map_fixed, AllPairs-map, count-filter, count-map}
+use Rattle.sender_core.proofs.SoundLists.{none-any, filter_all, Contains-filter, passes_filter, Contains-map, map_fixed, count-filter, count-map}
 use Rattle.sender_core.proofs.SoundCells.{held, same_tag-apart}
 use Rattle.sender_core.proofs.SoundChanged.{SparesOthers}
 

@@ -16,7 +16,7 @@ use Rattle.psi_bundle.specs.declared.history.Call.TheVariants as call
 use Rattle.item_slots.specs.Tags.{bins_of_row, positions_of}
 use Rattle.item_slots.proofs.PositionLaws.{positions-below, positions-rise}
 use Rattle.psi_bundle.specs.Bins.{AreApart, same_tag, holds, without, relabelled}
-use Rattle.psi_bundle.specs.Versions.{Version, Labels, Row, row_at, placed, changed, planes_of, cells_of, empty_version, greatest_stamp, IsWithinLimits, HasLabelLength, IsSound}
+use Rattle.psi_bundle.specs.Versions.{Version, Labels, Row, row_at, changed, planes_of, cells_of, empty_version, greatest_stamp, IsWithinLimits, HasLabelLength, IsSound}
 use Rattle.psi_bundle.specs.Steps.{Step, step, next, unchanged, fits, replace, add, remove}
 use Rattle.psi_bundle.proofs.BinChanges.{apart-relabelled, apart-without, same_tag-Decides}
 use Rattle.sender_core.specs.Soundness.{HasRoom}

@@ -1,10 +1,9 @@
-use Rattle.std.proofs.Common.{◌≡◌, ◌∙◌, ◌+◌, ◌*◌, ◌<◌, ◌≤◌, ℕ, List, length, map, ap, sym, subst, arith}
-use Rattle.std.specs.List.{range_with_len}
+use Rattle.std.proofs.Common.{◌≡◌, ◌∙◌, ◌+◌, ◌*◌, ℕ, List, length, ap, sym, subst, arith}
 use Rattle.std.proofs.lemmas.List.FromFn.{length-map-range_with_len}
 use Rattle.std.proofs.lemmas.Nat.{mul-add-lt}
 use Rattle.noise_ledger.specs.Verdicts.{parameters_of}
 use Rattle.row_block.specs.Rows.{Block}
-use Rattle.bundle_cache.specs.Caches.{bundle_row, holding}
+use Rattle.bundle_cache.specs.Caches.{bundle_row}
 use Rattle.bundle_cache.specs.Columns.{AreColumns}
 use Rattle.bundle_cache.proofs.Pushing.{planes-more}
 use Rattle.bundle_cache.proofs.Writing.{cells-ready}

@@ -1,4 +1,4 @@
-use Rattle.std.proofs.Common.{◌≡◌, arith}
+use Rattle.std.proofs.Common.{arith}
 use Rattle.noise_ledger.specs.Verdicts.{parameters_of}
 use Rattle.bundle_cache.proofs.Writing.{filled-all}
 use Rattle.bundle_cache.proofs.columns.columns_of_plane.Goals as goal

@@ -1,4 +1,4 @@
-use Rattle.std.proofs.Common.{◌≡◌, ◌∙◌, ◌+◌, ◌-◌, ◌/◌, ◌%◌, ℕ, suc, List, ap, sym, subst, get_or, arith}
+use Rattle.std.proofs.Common.{◌≡◌, ◌∙◌, ◌-◌, ◌/◌, ◌%◌, ℕ, suc, List, ap, sym, get_or, arith}
 use Rattle.noise_ledger.specs.Verdicts.{parameters_of}
 use Rattle.psi_bundle.specs.declared.member.Member.{Member}
 use Rattle.psi_bundle.specs.Bins.{bin_at}

@@ -1,7 +1,6 @@
-use Rattle.std.proofs.Common.{◌≡◌, ◌∙◌, ◌++◌, ◌<◌, ◌≤◌, ℕ, List, ap, sym, subst, map, take, drop, get_or, length, inl, inr, arith}
+use Rattle.std.proofs.Common.{◌∙◌, ℕ, List, ap, sym, subst, map, get_or}
 use Rattle.std.specs.Prelude.{nat_eq}
 use Rattle.std.specs.List.{IsDistinct}
-use Rattle.std.proofs.lemmas.List.{length-map}
 use Rattle.bundle_cache.specs.Columns.{points_of}
 use Rattle.bundle_cache.proofs.Bins.{points-distinct, interpolated-everywhere}
 use Rattle.bundle_cache.proofs.Writing.{whole-written}

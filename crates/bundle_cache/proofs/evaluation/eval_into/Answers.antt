@@ -1,4 +1,4 @@
-use Rattle.std.proofs.Common.{◌≡◌, ◌∙◌, [], length, ap, arith}
+use Rattle.std.proofs.Common.{◌∙◌, [], arith}
 use Rattle.std.proofs.lemmas.List.FromFn.{fill_by_all}
 use Rattle.psi_bundle.specs.Bodies.{evaluated_plane}
 use Rattle.psi_bundle.specs.Planes.{planes_of_bundle}

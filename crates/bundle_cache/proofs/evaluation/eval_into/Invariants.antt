@@ -1,4 +1,4 @@
-use Rattle.std.proofs.Common.{◌≡◌, ◌<◌, ◌≤◌, ℕ, [], length, get_or}
+use Rattle.std.proofs.Common.{◌≡◌, ◌<◌, ℕ, [], length, get_or}
 use Rattle.psi_bundle.specs.Bodies.{evaluated_plane}
 use Rattle.bundle_cache.proofs.evaluation.eval_into.Given as goal
 

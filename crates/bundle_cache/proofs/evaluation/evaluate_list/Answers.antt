@@ -1,6 +1,6 @@
-use Rattle.std.proofs.Common.{◌≡◌, ◌∙◌, ◌+◌, ◌*◌, ◌<◌, ℕ, List, nat_lt, ap, sym, subst, arith}
+use Rattle.std.proofs.Common.{◌≡◌, ◌∙◌, ◌+◌, ◌*◌, ℕ, List, nat_lt, ap, sym, subst, arith}
 use Rattle.psi_residue.specs.declared.numbers.Modulus.{Modulus}
-use Rattle.psi_residue.specs.Ciphertexts.{ciphertext_at, list_at, list_modulus}
+use Rattle.psi_residue.specs.Ciphertexts.{ciphertext_at, list_at}
 use Rattle.psi_residue.specs.Evaluations.{evaluated_at}
 use Rattle.psi_residue.specs.Numbers.{modulus_of}
 use Rattle.psi_residue.specs.Parameters.{Parameters}

@@ -1,4 +1,4 @@
-use Rattle.std.proofs.Common.{◌≡◌, ◌∙◌, ◌+◌, ◌*◌, ℕ, List, refl, sym, arith}
+use Rattle.std.proofs.Common.{◌+◌, ◌*◌, arith}
 use Rattle.psi_residue.specs.Ciphertexts.{ciphertext_at}
 use Rattle.psi_bundle.specs.Planes.{packed_plane}
 use Rattle.bundle_cache.proofs.Values.{all-lists}

@@ -1,4 +1,4 @@
-use Rattle.std.proofs.Common.{◌≡◌, ◌%◌, ◌∙◌, true, false, ℕ, List, Bool, ap, sym, subst, arith, replicate, lt-ltb, le-ltb}
+use Rattle.std.proofs.Common.{◌≡◌, ◌%◌, ◌∙◌, ℕ, List, Bool, ap, sym, subst, arith, replicate, lt-ltb, le-ltb}
 use Rattle.psi_residue.specs.Numbers.{modulus_of, scale}
 use Rattle.psi_residue.specs.Polynomials.{IsPolynomial}
 use Rattle.psi_residue.proofs.Polynomials.{IsPolynomial-constant}

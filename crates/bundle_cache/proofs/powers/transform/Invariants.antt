@@ -1,4 +1,4 @@
-use Rattle.std.proofs.Common.{◌≡◌, ◌<◌, length}
+use Rattle.std.proofs.Common.{◌<◌}
 use Rattle.psi_residue.specs.Ciphertexts.{IsCiphertext}
 use Rattle.bundle_cache.proofs.Cells.{AreTransformed}
 use Rattle.bundle_cache.proofs.powers.transform.Given as goal

@@ -1,5 +1,5 @@
 use Rattle.std.proofs.lemmas.List.{get_or_default}
-use Rattle.std.proofs.Common.{[], ◌∙◌, ap, sym, arith}
+use Rattle.std.proofs.Common.{[], arith}
 use Rattle.bundle_cache.proofs.Cells.{transforms-none, transforms-more, transforms-all}
 use Rattle.bundle_cache.proofs.powers.transform_all.Goals as goal
 

@@ -1,7 +1,4 @@
-use Rattle.std.proofs.Common.{◌≡◌, ◌∙◌, ◌+◌, ◌≤◌, ◌++◌, ℕ, List, length, get_or, map, ap, sym, subst, arith}
-use Rattle.std.specs.List.{All, range_with_len}
-use Rattle.bundle_cache.specs.Caches.{holding}
-use Rattle.bundle_cache.specs.Columns.{row_of_column}
+use Rattle.std.proofs.Common.{◌∙◌, length, ap, arith}
 use Rattle.bundle_cache.proofs.Pushing.{rows-wide, rows-before, rows-number, rows-more}
 use Rattle.bundle_cache.proofs.rows.push_columns.Goals as goal
 

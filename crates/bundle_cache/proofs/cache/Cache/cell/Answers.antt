@@ -1,11 +1,10 @@
-use Rattle.std.proofs.Common.{◌≡◌, ◌∙◌, ◌-◌, ap, sym, subst, take, drop, length, ℕ, List, arith}
+use Rattle.std.proofs.Common.{◌∙◌, ap, sym, subst, take, ℕ, List, arith}
 use Rattle.std.proofs.lemmas.List.{length-take-le}
 use Rattle.psi_residue.specs.Numbers.{modulus_of}
 use Rattle.psi_residue.specs.Polynomials.{IsPolynomial}
 use Rattle.negacyclic.proofs.TransformLaws.{IsPolynomial-values_of}
-use Rattle.psi_bundle.specs.Planes.{packed_plane}
 use Rattle.bundle_cache.specs.Queries.{modulus_at}
-use Rattle.bundle_cache.proofs.Cells.{first-half, second-half, rest-half, even-at, odd-at}
+use Rattle.bundle_cache.proofs.Cells.{first-half, rest-half, even-at, odd-at}
 use Rattle.bundle_cache.proofs.cache.Cache.cell.Goals as goal
 
 pub slice_bounds-result-end : goal.slice_bounds-result-end

@@ -1,4 +1,4 @@
-use Rattle.std.proofs.Common.{◌∙◌, ap, sym, subst, arith, length, get_or, ℕ, List, [], ◌*◌, ◌+◌, ◌<◌}
+use Rattle.std.proofs.Common.{◌∙◌, ap, subst, arith, length, get_or, ℕ, [], ◌*◌, ◌+◌}
 use Rattle.psi_bundle.specs.Planes.{packed_plane}
 use Rattle.bundle_cache.specs.Caches.{CacheOf, IsCache}
 use Rattle.bundle_cache.proofs.Cells.{row-at, row-within, length-bundle_rows, length-transforms_of}

@@ -1,9 +1,8 @@
-use Rattle.std.proofs.Common.{◌≡◌, ◌∙◌, ◌*◌, ◌+◌, ◌<◌, ℕ, List, [], length, map, get_or, ap, sym, subst, arith}
-use Rattle.std.proofs.lemmas.Nat.{mul-add-lt}
+use Rattle.std.proofs.Common.{◌≡◌, ◌∙◌, ◌*◌, ◌+◌, ℕ, List, length, get_or, ap, sym, subst, arith}
 use Rattle.psi_residue.specs.Numbers.{modulus_of}
 use Rattle.psi_residue.specs.Polynomials.{IsPolynomial}
 use Rattle.psi_residue.specs.Ciphertexts.{ciphertext_at, list_at, list_modulus}
-use Rattle.negacyclic.specs.Transforms.{polynomial_of, values_of}
+use Rattle.negacyclic.specs.Transforms.{values_of}
 use Rattle.negacyclic.proofs.TransformLaws.{IsPolynomial-polynomial_of}
 use Rattle.bundle_cache.specs.Queries.{PowersOf, modulus_at}
 use Rattle.bundle_cache.proofs.Cells.{list-of_query, values-of_query, place-within}
