@@ -14,3 +14,4 @@ pub mod Members
 pub mod Writes
 pub mod Opened
 pub mod Planes
+pub mod Worked

@@ -4,3 +4,4 @@ pub mod Openings
 pub mod Findings
 pub mod Faults
 pub mod Laws
+pub mod Works

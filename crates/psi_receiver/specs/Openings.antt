@@ -30,6 +30,10 @@ number_of reply row u plane = (sum (take row reply.counts) + u) * planes_of_bund
 abbrev pub value_in : (slots : List ℕ) → (bin part : ℕ) → ℕ
 value_in slots bin part = slice_index slots (5 * bin + part)
 
+-- the five slots of a bin are 0
+abbrev pub is_zero_in : (slots : List ℕ) → (bin : ℕ) → Bool
+is_zero_in slots bin = list_all (λ part. nat_eq (value_in slots bin part) 0) parts
+
 -- the value that a part of a bin opens to, in one plane of bundle u of the bin's row: position p is bin p % 819 of row p / 819
 unfoldable pub opened_value : Reply → (position u plane part : ℕ) → ℕ
 opened_value reply position u plane part =

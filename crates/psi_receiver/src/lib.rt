@@ -10,10 +10,11 @@ mod fault;
 mod found;
 mod laws;
 mod opening;
-mod pieces;
 mod placement;
+mod plane;
 mod query;
 mod slots;
+mod turns;
 
 pub use asking::{ask, ask_tags};
 pub use fault::{AskFault, OpenFault};

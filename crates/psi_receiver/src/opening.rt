@@ -12,9 +12,10 @@ ghost use Rattle.psi_receiver.specs.Openings.{AreOpened, IsOpenedPlane, opened, 
 use crate::asking::{first_long, tags_of};
 use crate::fault::OpenFault;
 use crate::found::Found;
-use crate::pieces::least_piece;
 use crate::placement::{Placed, place_tags};
-use crate::slots::{BINS, PARTS, Slots};
+use crate::plane::Plane;
+use crate::slots::{BINS, PARTS};
+use crate::turns::{map_in_turns, values_of};
 use bfv_core::SecretKey;
 use item_slots::Tag;
 use noise_ledger::Params;
@@ -106,23 +107,19 @@ fn open_ciphertexts<R: Threads + Sync>(
     key: &SecretKey,
     reply: &[u8],
     number: usize,
-) -> Result<Vec<Slots>, CodecFault>
+) -> Result<Vec<Plane>, CodecFault>
     requires passed { ArePassed (parameters_of params.now) }
     requires head { IsReplyHead (parameters_of params.now) reply.now }
     requires number { number ≡ planes_of (parameters_of params.now) (reply_counts (parameters_of params.now) reply.now) }
     ensures opened { IfOk result (λ planes. planes.items ≡ map (opened_slots key.now) (reply_ciphertexts (parameters_of params.now) reply.now)) }
     ensures reply { OnOk result (IsReply (parameters_of params.now) reply.now) }
 {
-    (0..number)
-        .into_par_iter()
-        .with_min_len(least_piece(rt, number))
-        .map(
-            |c: usize| -> Result<Slots, CodecFault>
-                requires { (c < planes_of (parameters_of params.now) (reply_counts (parameters_of params.now) reply.now)) × ArePassed (parameters_of params.now) × IsReplyHead (parameters_of params.now) reply.now }
-                ensures { IfOk result (IsOpenedPlane (parameters_of params.entry.now) key.entry.now reply.entry.now c) }
-            { open_ciphertext(alloc, params, key, reply, c) },
-        )
-        .collect::<Result<Vec<Slots>, CodecFault>>(rt, alloc)?
+    let open = |c: usize| -> Result<Plane, CodecFault>
+        requires { (c < planes_of (parameters_of params.now) (reply_counts (parameters_of params.now) reply.now)) × ArePassed (parameters_of params.now) × IsReplyHead (parameters_of params.now) reply.now }
+        ensures { IfOk result (IsOpenedPlane (parameters_of params.entry.now) key.entry.now reply.entry.now c) }
+    { open_ciphertext(alloc, params, key, reply, c) };
+    let planes = map_in_turns(rt, alloc, number, &open)?;
+    values_of(alloc, planes)
 }
 
 // The slots of what ciphertext number `c` of a reply opens to.
@@ -132,14 +129,14 @@ fn open_ciphertext(
     key: &SecretKey,
     reply: &[u8],
     c: usize,
-) -> Result<Slots, CodecFault>
+) -> Result<Plane, CodecFault>
     requires passed { ArePassed (parameters_of params.now) }
     requires head { IsReplyHead (parameters_of params.now) reply.now }
     requires within { c < planes_of (parameters_of params.now) (reply_counts (parameters_of params.now) reply.now) }
     ensures { IfOk result (IsOpenedPlane (parameters_of params.now) key.now reply.now c) }
 {
     let ct = read_reply_ciphertext(alloc, params, reply, c)?;
-    Ok(Slots::opened(alloc, key, &ct)?)
+    Ok(Plane::opened(alloc, key, &ct)?)
 }
 
 // What opened planes give for placed tags, in threads where there are some thousand.
@@ -148,7 +145,7 @@ fn open_placed<R: Threads + Sync>(
     alloc: Global,
     params: &Params,
     counts: &[u16],
-    planes: &[Slots],
+    planes: &[Plane],
     placed: &[Placed],
 ) -> Result<Vec<Found>, AllocError>
     requires few { params.now.units ≤ 4 }
@@ -185,7 +182,7 @@ fn open_item(
     alloc: Global,
     params: &Params,
     counts: &[u16],
-    planes: &[Slots],
+    planes: &[Plane],
     x: &Placed,
 ) -> Result<Vec<Found>, AllocError>
     requires few { params.now.units ≤ 4 }
@@ -199,7 +196,7 @@ fn open_item(
     let first = bundles_before(counts, row);
     for bundle in 0..counts[row] {
         let own = planes_of_bundle(planes, params.units, first + usize::from(bundle));
-        if opens(&own[0], bin) {
+        if own[0].is_zero(bin) {
             found.push(Found {
                 item: x.item,
                 bundle,
@@ -211,7 +208,7 @@ fn open_item(
 }
 
 // The planes of a bundle, by the number of bundles before it: the root plane and the label units' planes.
-fn planes_of_bundle(planes: &[Slots], units: u8, bundle: usize) -> &[Slots]
+fn planes_of_bundle(planes: &[Plane], units: u8, bundle: usize) -> &[Plane]
     requires within { (bundle + 1) * (1 + units) ≤ length planes.now }
     ensures planes { result.now ≡ take (1 + units) (drop (bundle * (1 + units)) planes.now) }
     ensures number { length result.now ≡ 1 + units }
@@ -235,28 +232,15 @@ fn bundles_before(counts: &[u16], row: usize) -> usize
     bundles
 }
 
-// Whether the five slots of a bin are 0.
-fn opens(slots: &Slots, bin: usize) -> bool
-    requires { bin < bins_of_row }
-    ensures { result ≡ list_all (λ part. nat_eq (value_in slots.now bin part) 0) parts }
-{
-    for part in 0..PARTS {
-        if slots.value(PARTS * bin + part) != 0 {
-            return false;
-        }
-    }
-    true
-}
-
 // The label that the planes of the label units give in a bin.
-fn label(alloc: Global, units: &[Slots], bin: usize) -> Result<Label, AllocError>
+fn label(alloc: Global, units: &[Plane], bin: usize) -> Result<Label, AllocError>
     requires bin { bin < bins_of_row }
     requires few { length units.now ≤ 4 }
-    ensures { IfOk result (λ label. label ≡ flat_map (λ slots. flat_map (λ part. bytes_high_first 2 (value_in slots bin part % 65536)) parts) units.now) }
+    ensures { IfOk result (λ label. label ≡ flat_map (λ unit. flat_map (λ part. bytes_high_first 2 (value_in unit bin part % 65536)) parts) units.now) }
 {
     let mut bytes = Vec::new(alloc);
-    for slots in units {
-        append_unit(&mut bytes, slots, bin)?;
+    for unit in units {
+        append_unit(&mut bytes, unit, bin)?;
     }
     match Label::of(&bytes) {
         Some(label) => Ok(label),
@@ -265,12 +249,12 @@ fn label(alloc: Global, units: &[Slots], bin: usize) -> Result<Label, AllocError
 }
 
 // Appends the ten bytes of a label unit: 16 bits from each part, the higher byte first.
-fn append_unit(bytes: &mut Vec<u8>, slots: &Slots, bin: usize) -> Result<(), AllocError>
+fn append_unit(bytes: &mut Vec<u8>, plane: &Plane, bin: usize) -> Result<(), AllocError>
     requires { bin < bins_of_row }
-    ensures { OnOk result (bytes.new.items ≡ bytes.old.items ++ flat_map (λ part. bytes_high_first 2 (value_in slots.now bin part % 65536)) parts) }
+    ensures { OnOk result (bytes.new.items ≡ bytes.old.items ++ flat_map (λ part. bytes_high_first 2 (value_in plane.now bin part % 65536)) parts) }
 {
     for part in 0..PARTS {
-        append_number(bytes, (slots.value(PARTS * bin + part) % 65536) as u16)?;
+        append_number(bytes, (plane.value(PARTS * bin + part) % 65536) as u16)?;
     }
     Ok(())
 }

@@ -10,16 +10,15 @@ ghost use Rattle.bfv_core.specs.EncryptedLists.{encrypted, key_of_seed};
 ghost use Rattle.query_codec.specs.Ciphertexts.{ciphertext_bytes, ciphertexts_bytes};
 ghost use Rattle.psi_receiver.specs.Queries.{powers_of, query_ciphertexts, row_values};
 
-use crate::pieces::least_piece;
 use crate::placement::Placed;
 use crate::slots::{BINS, PARTS, Slots};
+use crate::turns::{map_in_turns, values_of};
 use batching::pack;
 use bfv_core::{SecretKey, encrypt};
 use item_slots::{Tag, slots};
 use noise_ledger::Params;
 use psi_residue::{Modulus, N, pow};
 use query_codec::write_ciphertext;
-use rayon::prelude::*;
 use std::alloc::{AllocError, Global};
 use std::thread::Threads;
 
@@ -57,20 +56,17 @@ fn encrypt_powers<R: Threads + Sync>(
     requires key_of_this_seed { key.now ≡ key_of_seed seed.now }
     ensures { IfOk result (λ pieces. map (λ piece. piece.items) pieces.items ≡ map (λ c. ciphertext_bytes (encrypted seed.now c (packed_list (powers_of (slice_index_or values.now (c / capacity) []) (c % capacity + 1))))) (range_with_len 0 (length values.now * capacity))) }
 {
-    let number = values.len() as u32 * capacity;
-    (0..number)
-        .into_par_iter()
-        .with_min_len(least_piece(rt, number as usize))
-        .map(
-            |c: u32| -> Result<Vec<u8>, AllocError>
-                requires { (c < length values.now * capacity) × (length values.now * capacity ≤ 2400) × (key.now ≡ key_of_seed seed.now) }
-                ensures { IfOk result (λ bytes. bytes.items ≡ ciphertext_bytes (encrypted seed.entry.now c (packed_list (powers_of (slice_index_or values.entry.now (c / capacity) []) (c % capacity + 1))))) }
-            {
-                let row = (c / capacity) as usize;
-                encrypt_power(alloc, key, seed, &values[row], c, c % capacity + 1)
-            },
-        )
-        .collect::<Result<Vec<Vec<u8>>, AllocError>>(rt, alloc)?
+    let number = values.len() * capacity as usize;
+    let power = |c: usize| -> Result<Vec<u8>, AllocError>
+        requires { (c < length values.now * capacity) × (length values.now * capacity ≤ 2400) × (key.now ≡ key_of_seed seed.now) }
+        ensures { IfOk result (λ bytes. bytes.items ≡ ciphertext_bytes (encrypted seed.entry.now c (packed_list (powers_of (slice_index_or values.entry.now (c / capacity) []) (c % capacity + 1))))) }
+    {
+        let c = c as u32;
+        let row = (c / capacity) as usize;
+        encrypt_power(alloc, key, seed, &values[row], c, c % capacity + 1)
+    };
+    let pieces = map_in_turns(rt, alloc, number, &power)?;
+    values_of(alloc, pieces)
 }
 
 // The bytes of ciphertext number `c`, of these slot values' powers with an exponent.

@@ -11,7 +11,7 @@ loop-part-init c = sym (append-nil c.args.bytes.now.items)
 
 pub loop-part-preserved : goal.loop-part-preserved
 loop-part-preserved c =
-    let number : ℕ → List ℕ = λ part. bytes_high_first 2 (value_in c.args.slots.now c.args.bin part % 65536) in
+    let number : ℕ → List ℕ = λ part. bytes_high_first 2 (value_in c.args.plane.now c.args.bin part % 65536) in
     let done = flat_map number (range_with_len 0 c.loop-part.part) in
     c.in_ok-append_number.ensures
     ∙ (λ i. c.loop-part.invariant i ++ bytes_high_first 2 (c.value.ensures.value i % 65536))
@@ -22,4 +22,4 @@ pub returns : goal.returns
 returns c =
     let all : c.loop-part.part ≡ 5 = omega arith in
     c.loop-part.invariant
-    ∙ ap (λ (n : ℕ). c.args.bytes.now.items ++ flat_map (λ part. bytes_high_first 2 (value_in c.args.slots.now c.args.bin part % 65536)) (range_with_len 0 n)) all
+    ∙ ap (λ (n : ℕ). c.args.bytes.now.items ++ flat_map (λ part. bytes_high_first 2 (value_in c.args.plane.now c.args.bin part % 65536)) (range_with_len 0 n)) all

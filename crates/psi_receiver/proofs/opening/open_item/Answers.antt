@@ -7,7 +7,7 @@ use Rattle.psi_receiver.specs.Openings.{Reply, opens_in, opened_label}
 use Rattle.psi_receiver.proofs.Opened.{bundle-last, planes-within, opens-told, label-told}
 use Rattle.psi_receiver.proofs.Steps.{opened_below, opened_below-none, opened_below-yes, opened_below-no, opened_below-all}
 use Rattle.psi_receiver.proofs.opening.open_item.Goals as goal
-use Rattle.psi_receiver.proofs.opening.open_item.Goals.{then-opens+in_ok-label+in_ok-push, else-opens}
+use Rattle.psi_receiver.proofs.opening.open_item.Goals.{then-is_zero+in_ok-label+in_ok-push, else-is_zero}
 
 pub loop-bundle-init : goal.loop-bundle-init
 loop-bundle-init c =
@@ -30,11 +30,11 @@ loop-bundle-preserved c =
     let own = c.planes_of_bundle-own.result.now in
     let bin_is = ap (λ (q : ℕ). q % 819) c.from-bin.ensures in
     let root = c.index-own-0.is ∙ get_or_default own 0 c.index-own-0.result [] (omega (arith, c.planes_of_bundle-own.ensures.number)) in
-    let told : opens_in reply c.args.x.now.position c.loop-bundle.bundle ≡ c.opens.result =
-    opens-told reply c.args.x.now.position c.loop-bundle.bundle own c.index-own-0.result (c.bundles_before-first.result + c.from.result) (c.from-bin.result % 819) c.opens.result
-    number c.planes_of_bundle-own.ensures.planes root bin_is c.opens.ensures in
-    elim c.if-opens.branch [
-      | then-opens+in_ok-label+in_ok-push w ↦
+    let told : opens_in reply c.args.x.now.position c.loop-bundle.bundle ≡ c.is_zero.result =
+    opens-told reply c.args.x.now.position c.loop-bundle.bundle own c.index-own-0.result (c.bundles_before-first.result + c.from.result) (c.from-bin.result % 819) c.is_zero.result
+    number c.planes_of_bundle-own.ensures.planes root bin_is c.is_zero.ensures in
+    elim c.if-is_zero.branch [
+      | then-is_zero+in_ok-label+in_ok-push w ↦
           let units = take (length own - 1) (drop 1 own) in
           let label_is : w.in_ok-label.field-0 ≡ opened_label reply c.args.x.now.position c.loop-bundle.bundle =
           label-told reply c.args.x.now.position c.loop-bundle.bundle own units (c.bundles_before-first.result + c.from.result) (c.from-bin.result % 819) w.in_ok-label.field-0
@@ -42,11 +42,11 @@ loop-bundle-preserved c =
           ap (λ v. v.items) w.found-is
           ∙ w.in_ok-push.ensures.items
           ∙ (λ i. c.loop-bundle.invariant i ++ record { item = c.args.x.now.item; bundle = c.loop-bundle.bundle; label = label_is i } ∷ [])
-          ∙ sym (opened_below-yes reply c.args.x.now c.loop-bundle.bundle (told ∙ w.if-opens.true))
-      | else-opens w ↦
+          ∙ sym (opened_below-yes reply c.args.x.now c.loop-bundle.bundle (told ∙ w.if-is_zero.true))
+      | else-is_zero w ↦
           ap (λ v. v.items) w.found-is
           ∙ c.loop-bundle.invariant
-          ∙ sym (opened_below-no reply c.args.x.now c.loop-bundle.bundle (told ∙ w.if-opens.false))
+          ∙ sym (opened_below-no reply c.args.x.now c.loop-bundle.bundle (told ∙ w.if-is_zero.false))
     ]
 
 pub returns : goal.returns
