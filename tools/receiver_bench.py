@@ -1,15 +1,22 @@
 #!/usr/bin/env python3
-"""Writes the crate bench_receiver, which measures the receiver: a query of 500 items at capacity 64, and opening a reply.
+"""Measures the receiver: a query of 500 items at capacity 64, and opening a reply of 60 bundles in which nothing is found.
 
-No part of the gate. In a copy of the repository, run this at the top, add the line
+No part of the gate. In a copy of the repository, run this at the top: it writes the crate bench_receiver. Add the line
 `bench_receiver: anyhow bfv_core noise_ledger psi_receiver psi_residue query_codec` to crates.txt, and `rt run` in
-crates/bench_receiver; then run out/bench_receiver there, on all processors, and on one (`taskset -c 0`), so that rayon's
-threads share it. The line has the least times of some rounds, in nanoseconds a ciphertext: of `ask`, 64 ciphertexts, and
-of `open`, a reply of 60 bundles in which nothing is found.
-"""
-import pathlib
+crates/bench_receiver. Each line that the program writes has the times of one round, in nanoseconds a ciphertext: of `ask`,
+64 ciphertexts, and of `open`, 60.
 
-MAIN = """//! How long a query and the opening of a reply take: the least of some rounds, in nanoseconds a ciphertext.
+`receiver_bench.py measure TIMES`, at the top, then runs it so often on one processor (each in its turn) and on all, by turns,
+since a host may take a processor's speed away for a minute or a moment. It writes of both the least, the median and the mean
+time, and how many times as fast all processors were.
+"""
+import os
+import pathlib
+import statistics
+import subprocess
+import sys
+
+MAIN = """//! How long a query and the opening of a reply take, in nanoseconds a ciphertext.
 #![tactic(auto)]
 ghost use Rattle.std.specs.Prelude.{◌≡◌, ◌*◌, ◌<◌, ◌≤◌, ◌^◌, IfOk, length};
 ghost use Rattle.psi_residue.specs.Numbers.{plain_modulus};
@@ -60,8 +67,8 @@ fn ones(alloc: Global, number: u16) -> Result<Vec<Ciphertext>, AllocError>
     Ok(cts)
 }
 
-// The least times of a query and of an opening.
-fn least<R: Threads + Sync>(rt: &HostRuntime, threads: &R) -> Result<(u128, u128), anyhow::Error> {
+// The times of rounds of a query and an opening, a line each.
+fn measure<R: Threads + Sync>(rt: &HostRuntime, threads: &R) -> Result<(), anyhow::Error> {
     let alloc = rt.alloc();
     let params = Params::of(1, 64, 0);
     if check(&params).is_err() {
@@ -72,9 +79,7 @@ fn least<R: Threads + Sync>(rt: &HostRuntime, threads: &R) -> Result<(u128, u128
         Ok(reply) => reply,
         Err(_) => return Err(AllocError.into()),
     };
-    let mut asked = u128::MAX;
-    let mut opened = u128::MAX;
-    for _ in 0..200 {
+    for _ in 0..40 {
         let t0 = Instant::now(rt)?;
         let query = ask(threads, alloc, &params, &SEED, &items).ok();
         let t1 = Instant::now(rt)?;
@@ -83,16 +88,15 @@ fn least<R: Threads + Sync>(rt: &HostRuntime, threads: &R) -> Result<(u128, u128
         if query.is_none() || found.map_or(true, |found| !found.is_empty()) {
             return Err(anyhow!("not as it should be"));
         }
-        asked = asked.min(t1.saturating_duration_since(t0).as_nanos());
-        opened = opened.min(t2.saturating_duration_since(t1).as_nanos());
+        let asked = t1.saturating_duration_since(t0).as_nanos() / 64;
+        let opened = t2.saturating_duration_since(t1).as_nanos() / 60;
+        println!(rt; "ask {asked} open {opened}")?;
     }
-    Ok((asked / 64, opened / 60))
+    Ok(())
 }
 
 fn main(rt: HostRuntime) -> Result<(), anyhow::Error> {
-    let (asked, opened) = least(&rt, &rt)?;
-    println!(rt; "ask {asked} open {opened}")?;
-    Ok(())
+    measure(&rt, &rt)
 }
 """
 
@@ -119,7 +123,10 @@ returns c = IsPolynomial-set 65537 (replicate 4096 0) 0 1 (IsPolynomial-constant
 """
 
 
-def main():
+PROGRAM = "crates/bench_receiver/out/bench_receiver"
+
+
+def write_crate():
     crate = pathlib.Path("crates/bench_receiver")
     files = {"src/main.rt": MAIN, "proofs/items/Invariants.antt": ITEMS, "proofs/ones/Invariants.antt": ONES, "proofs/one/Answers.antt": ONE}
     for name, text in files.items():
@@ -127,5 +134,27 @@ def main():
         (crate / name).write_text(text)
 
 
+def rounds(command):
+    """The times of `ask` and of `open` in each round of one run."""
+    lines = subprocess.run(command, capture_output=True, text=True, check=True).stdout.split("\n")
+    words = [line.split() for line in lines if line]
+    return [(int(w[1]), int(w[3])) for w in words]
+
+
+def measure(times):
+    processors = sorted(os.sched_getaffinity(0))
+    one, all_ = [], []
+    for turn in range(times):
+        one += rounds(["taskset", "-c", str(processors[turn % len(processors)]), PROGRAM])
+        all_ += rounds([PROGRAM])
+    for place, call in enumerate(("ask", "open")):
+        figures = [[f(times_[place] for times_ in found) for found in (one, all_)] for f in (min, statistics.median, statistics.mean)]
+        text = "   ".join(f"{name} {a / 1000:.1f} and {b / 1000:.1f} ({a / b:.2f})" for name, (a, b) in zip(("least", "median", "mean"), figures))
+        print(f"{call}, microseconds a ciphertext on one processor and on {len(processors)}: {text}")
+
+
 if __name__ == "__main__":
-    main()
+    if sys.argv[1:2] == ["measure"]:
+        measure(int(sys.argv[2]))
+    else:
+        write_crate()
