@@ -143,14 +143,16 @@ def rounds(command):
 
 def measure(times):
     processors = sorted(os.sched_getaffinity(0))
-    one, all_ = [], []
+    on_one, on_all = [], []
     for turn in range(times):
-        one += rounds(["taskset", "-c", str(processors[turn % len(processors)]), PROGRAM])
-        all_ += rounds([PROGRAM])
+        on_one += rounds(["taskset", "-c", str(processors[turn % len(processors)]), PROGRAM])
+        on_all += rounds([PROGRAM])
     for place, call in enumerate(("ask", "open")):
-        figures = [[f(times_[place] for times_ in found) for found in (one, all_)] for f in (min, statistics.median, statistics.mean)]
-        text = "   ".join(f"{name} {a / 1000:.1f} and {b / 1000:.1f} ({a / b:.2f})" for name, (a, b) in zip(("least", "median", "mean"), figures))
-        print(f"{call}, microseconds a ciphertext on one processor and on {len(processors)}: {text}")
+        one = [found[place] / 1000 for found in on_one]
+        every = [found[place] / 1000 for found in on_all]
+        print(f"{call}, microseconds a ciphertext, on one processor and on {len(processors)}:")
+        for name, of in (("least", min), ("median", statistics.median), ("mean", statistics.mean)):
+            print(f"  {name:6} {of(one):7.1f} {of(every):7.1f}, {of(one) / of(every):.2f} times as fast")
 
 
 if __name__ == "__main__":
