@@ -708,6 +708,20 @@ def check_many_workers(checks):
     checks.tell("many workers: no others are", good and found.keys() == labels.keys(), f"{len(found)} found")
 
 
+def check_greatest(checks):
+    """The greatest capacities without label units and with four, and four rows: what is put is found with its label, and no more."""
+    for p, number in ((Params(1, 2244), 1), (Params(1, 818, 4), 1), (Params(4, 3), 12)):
+        items, label = [b"item-%d" % i for i in range(number)], bytes(range(10 * p.units))
+        asked = b"\n".join(items + [b"other"])
+        query = checks.run(["ask"] + p.words() + [SEED.hex(), "1", "100"], asked)
+        run = checks.run(serve(p), request_bytes([put(1, i, item, label) for i, item in enumerate(items)]) + query.stdout)
+        want = "".join(f"{item.hex()} 0 {label.hex() or '-'}\n" for item in items)
+        with tempfile.NamedTemporaryFile() as file:
+            file.write(last_frame(run.stdout))
+            file.flush()
+            checks.same(f"found at {p.words()}", ["open"] + p.words() + [SEED.hex(), file.name], asked, 0, want.encode())
+
+
 def check_demo(checks):
     text = b"demo 7\nreplies 441\nadded 400\nremoved 37\nasks 3\nstable 38 38 38\n"
     for workers in ("1", "2", "4", "8", "4"):
@@ -722,6 +736,7 @@ def main(program):
     check_asking(checks)
     check_opening(checks)
     check_many_workers(checks)
+    check_greatest(checks)
     check_demo(checks)
     print(f"outside values: {checks.count - checks.failed} agree, {checks.failed} differ")
     return 1 if checks.failed else 0
