@@ -1,10 +1,19 @@
 //! Whole runs over memory: the status and what was written.
-ghost use Rattle.std.specs.Prelude.{IfOk};
+ghost use Rattle.std.specs.Prelude.{IfOk, IfSome};
+ghost use Rattle.psi_frames.specs.Requests.{IsFit};
 ghost use Rattle.psi_outside.specs.InMemory.{DifferInName, file_entries};
 
 use crate::run::psi_run;
+use item_slots::{Tag, tag_from};
+use noise_ledger::{Params, check};
+use psi_bundle::Label;
+use psi_frames::{Reply, Request};
 use psi_outside::{Gate, Held, Hold, MemoryFiles, MemorySink, MemorySource, Open, Point};
+use psi_receiver::{ask_tags, open_tags};
 use psi_words::help_text;
+use query_codec::{Ciphertexts, read_query};
+use query_pool::round_alone;
+use sender_core::Book;
 use std::alloc::{AllocError, Global};
 use std::sync::Wait;
 use std::test::Fail;
@@ -344,4 +353,76 @@ fn a_script_is_served_and_counted(rt: HostRuntime) -> Result<(), Fail> {
     assert_eq!(rt; status, 0);
     assert_eq!(rt; text.as_slice(), SUMMARY.as_bytes());
     Ok(())
+}
+
+// The tags of one bin with the slot values 1 to 5 and 6 to 10, and one that has the values of both by turns.
+const FIRST: [u8; 22] = [
+    0, 1, 0, 2, 0, 3, 0, 4, 0, 5, 0, 0, 0, 0, 0, 0, 0, 0, 0, 0, 0, 0,
+];
+
+const SECOND: [u8; 22] = [
+    0, 6, 0, 7, 0, 8, 0, 9, 0, 10, 0, 0, 0, 0, 0, 0, 0, 0, 0, 0, 0, 0,
+];
+
+const STRANGER: [u8; 22] = [
+    0, 1, 0, 7, 0, 3, 0, 9, 0, 5, 0, 0, 0, 0, 0, 0, 0, 0, 0, 0, 0, 0,
+];
+
+// A Put of a tag, with a label of one unit.
+fn put_of(number: u32, tag: Tag, label: &[u8; 10]) -> Option<Request>
+    ensures { IfSome result (IsFit (record { form = 1; rows = 1; capacity = 2; units = 1; drop = 0; spare = 0 })) }
+{
+    let label = Label::of(label)?;
+    Some(Request::Put {
+        session: 1,
+        number,
+        tag,
+        label,
+    })
+}
+
+// An Ask with two ciphertexts.
+fn ask_of(query: Ciphertexts) -> Option<Request>
+    ensures { IfSome result (IsFit (record { form = 1; rows = 1; capacity = 2; units = 1; drop = 0; spare = 0 })) }
+{
+    if query.items().len() != 2 {
+        return None;
+    }
+    Some(Request::Ask {
+        session: 1,
+        number: 3,
+        query,
+    })
+}
+
+// What a set of two members answers to the query of a stranger: the number of found items, and the first one's bundle and label.
+fn stranger_found<R: Threads + Sync>(rt: &R, alloc: Global) -> Option<(usize, u16, Label)> {
+    let params = Params::of(1, 2, 1);
+    if check(&params).is_err() {
+        return None;
+    }
+    let seed = [7; 32];
+    let stranger = [tag_from(STRANGER)];
+    let query = ask_tags(rt, alloc, &params, &seed, &stranger).ok()?;
+    let query = Ciphertexts::of(read_query(alloc, &params, &query).ok()?);
+    let first = put_of(1, tag_from(FIRST), &[0, 11, 0, 12, 0, 13, 0, 14, 0, 15])?;
+    let second = put_of(2, tag_from(SECOND), &[0, 21, 0, 22, 0, 23, 0, 24, 0, 25])?;
+    let book = Book::open(alloc, &params).ok()?;
+    let requests = vec![in alloc; first, second, ask_of(query)?].ok()?;
+    let round = round_alone(rt, alloc, &params, book, requests).ok()?;
+    let Reply::Answer { body, .. } = &round.replies[2] else {
+        return None;
+    };
+    let mut found = open_tags(rt, alloc, &params, &seed, &stranger, body.items()).ok()?;
+    let number = found.len();
+    let last = found.pop()?;
+    Some((number, last.bundle, last.label))
+}
+
+#[test]
+fn a_stranger_that_shares_each_value_is_found(rt: HostRuntime) {
+    let found = stranger_found(&rt, rt.alloc());
+    let (number, bundle, label) = found.expect(&rt, "memory");
+    assert_eq!(rt; (number, bundle), (1, 0));
+    assert!(rt; label.bytes() == [0, 11, 0, 22, 0, 13, 0, 24, 0, 15].as_slice());
 }
