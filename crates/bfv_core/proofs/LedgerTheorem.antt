@@ -14,7 +14,7 @@ use Rattle.negacyclic.proofs.Ring.{ring, ring-times, ring-bound, spread-ring}
 use Rattle.negacyclic.proofs.Products.{conv-spread, past-end, product-ring, product_at-conv}
 use Rattle.negacyclic.proofs.RingValues.{value, value-evaluated}
 use Rattle.noise_ledger.specs.Ledgers.{greatest_error, greatest_coefficient, carry_of, noise_of, used_of, passes}
-use Rattle.bfv_core.specs.Encryptions.{IsNear, Carries, phase, opened, opening}
+use Rattle.bfv_core.specs.Encryptions.{IsNear, Carries, phase, opened_coefficient, opening}
 use Rattle.psi_residue.specs.Evaluations.{evaluated}
 use Rattle.bfv_core.specs.Evaluations.{evaluated_plain, IsEvaluable, whole_more, whole_less, IsCarry, IsScaledCarry, IsSlotwise}
 use Rattle.bfv_core.proofs.LedgerErrors.{ErrorAt, errors_at, more_term, less_term, near-products, errors-bound}
@@ -276,8 +276,8 @@ evaluation-carries p key ciphertexts plaintexts factors h i lt =
           (carry-rest p.capacity factors plaintexts i carry.up carry.down carry.exact);
     }
 
-opened-is : (p : Parameters) (x m : ℕ) → passes p → m < plain_modulus → IsNear cipher_modulus (noise_of p.capacity) x (scale * m) → opened x ≡ m
-unfolding opened used_of
+opened-is : (p : Parameters) (x m : ℕ) → passes p → m < plain_modulus → IsNear cipher_modulus (noise_of p.capacity) x (scale * m) → opened_coefficient x ≡ m
+unfolding opened_coefficient used_of
 opened-is p x m passed below near =
     opened-near cipher_modulus plain_modulus scale scale_rest greatest_coefficient (noise_of p.capacity) x m (omega arith) refl below (omega arith) passed near
 
@@ -286,7 +286,7 @@ pub carried-opens : (p : Parameters) (key : List ℤ) (ct : List (List ℕ)) (pl
     → Carries (noise_of p.capacity) key ct plain → opening key ct ≡ plain
 unfolding opening
 carried-opens p key ct plain passed h carried =
-    sym (same_as_table 4096 (λ k. opened (phase key ct k)) plain h.size
+    sym (same_as_table 4096 (λ k. opened_coefficient (phase key ct k)) plain h.size
     (λ k lt. sym (opened-is p (phase key ct k) (get_or plain k 0) passed (h.below k lt) (carried k lt))))
 
 pub evaluated_plain-polynomial : (count : ℕ) (factors plaintexts : ℕ → List ℕ) → IsPolynomial plain_modulus (evaluated_plain count factors plaintexts)

@@ -10,7 +10,7 @@ use Rattle.psi_residue.proofs.Filling.{IsFilled, IsFilled-none}
 use Rattle.negacyclic.proofs.Products.{slice_index-product}
 use Rattle.psi_residue.proofs.Polynomials.{IsPolynomial-table}
 use Rattle.psi_residue.specs.Ciphertexts.{list_at}
-use Rattle.bfv_core.specs.Encryptions.{phase_residue, phase, opened, opening}
+use Rattle.bfv_core.specs.Encryptions.{phase_residue, phase, opened_coefficient, opening}
 use Rattle.bfv_core.specs.EncryptedLists.{added}
 
 -- the coefficients of a product with the key
@@ -33,18 +33,18 @@ unfolding added phase_residue
 phase_from m key coefficients c0 c1 s prod out e same_prod same_s same_key =
     e ∙ table-same 4096 _ _ (λ k lt. ap (λ (u : ℕ). (get_or c0 k 0 + u) % m) (product_from m key coefficients c1 s prod same_prod same_s same_key k lt))
 
-pub opened-below : (x : ℕ) → opened x < plain_modulus
-unfolding opened
+pub opened-below : (x : ℕ) → opened_coefficient x < plain_modulus
+unfolding opened_coefficient
 opened-below x = omega arith
 
 pub opening-polynomial : (key : List ℤ) (ct : List (List ℕ)) → IsPolynomial plain_modulus (opening key ct)
 unfolding opening
-opening-polynomial key ct = IsPolynomial-table plain_modulus (λ k. opened (phase key ct k)) (λ k lt. opened-below (phase key ct k))
+opening-polynomial key ct = IsPolynomial-table plain_modulus (λ k. opened_coefficient (phase key ct k)) (λ k lt. opened-below (phase key ct k))
 
 pub opening_from : (key : List ℤ) (ct : List (List ℕ)) (a0 a1 a2 a3 first second out : List ℕ)
     → a0 ≡ list_at ct 0 → a1 ≡ list_at ct 1 → a2 ≡ list_at ct 2 → a3 ≡ list_at ct 3
     → first ≡ table 4096 (phase_residue first_modulus key a0 a2) → second ≡ table 4096 (phase_residue second_modulus key a1 a3)
-    → length out ≡ 4096 → ((k : ℕ) → k < 4096 → get_or out k 0 ≡ opened (composed (get_or first k 0) (get_or second k 0)))
+    → length out ≡ 4096 → ((k : ℕ) → k < 4096 → get_or out k 0 ≡ opened_coefficient (composed (get_or first k 0) (get_or second k 0)))
     → out ≡ opening key ct
 unfolding opening phase
 opening_from key ct a0 a1 a2 a3 first second out e0 e1 e2 e3 e_first e_second len each =
@@ -54,4 +54,4 @@ opening_from key ct a0 a1 a2 a3 first second out e0 e1 e2 e3 e_first e_second le
     ap (λ (xs : List ℕ). get_or xs k 0) e_first ∙ slice_index-table 4096 (phase_residue first_modulus key a0 a2) k lt ∙ (λ i. phase_residue first_modulus key (e0 i) (e2 i) k) in
     let other : get_or second k 0 ≡ phase_residue second_modulus key (list_at ct 1) (list_at ct 3) k =
     ap (λ (xs : List ℕ). get_or xs k 0) e_second ∙ slice_index-table 4096 (phase_residue second_modulus key a1 a3) k lt ∙ (λ i. phase_residue second_modulus key (e1 i) (e3 i) k) in
-    each k lt ∙ (λ i. opened (composed (one i) (other i))))
+    each k lt ∙ (λ i. opened_coefficient (composed (one i) (other i))))

@@ -13,7 +13,7 @@ use Rattle.psi_residue.proofs.Congruences.{sum_congruent, product_congruent}
 use Rattle.psi_residue.proofs.Sums.{table-same, slice_index-table}
 use Rattle.std.proofs.Math.Nat.{mod-mod}
 use Rattle.negacyclic.specs.Transforms.{with_products}
-use Rattle.bfv_core.specs.Encryptions.{opened}
+use Rattle.bfv_core.specs.Encryptions.{opened_coefficient}
 use Rattle.bfv_core.specs.EncryptedLists.{added, scaled, hidden}
 
 -- place by place with a list of scales
@@ -39,8 +39,8 @@ unfolding composed first_inverse
 multiple_of a b below = omega (arith, below)
 
 -- the rounding by residues
-pub opened_by_residues : (a b rest : ℕ) → a + first_modulus * rest ≡ composed a b → (2 * 65537 * a / 68719403009 + 2 * 65537 * rest + 68719230977) / (2 * 68719230977) % 65537 ≡ opened (composed a b)
-unfolding opened
+pub opened_by_residues : (a b rest : ℕ) → a + first_modulus * rest ≡ composed a b → (2 * 65537 * a / 68719403009 + 2 * 65537 * rest + 68719230977) / (2 * 68719230977) % 65537 ≡ opened_coefficient (composed a b)
+unfolding opened_coefficient
 opened_by_residues a b rest whole = ap (λ (u : ℕ). u % 65537) (divided a rest (composed a b) whole)
   where
     divided : (a rest x : ℕ) → a + first_modulus * rest ≡ x → (2 * 65537 * a / 68719403009 + 2 * 65537 * rest + 68719230977) / (2 * 68719230977) ≡ (2 * 65537 * x + 4722344527977019809793) / (2 * 4722344527977019809793)

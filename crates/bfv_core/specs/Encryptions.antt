@@ -34,9 +34,9 @@ abbrev pub Carries : (bound : ℕ) → List ℤ → List (List ℕ) → List ℕ
 Carries bound key ct plain = (k : ℕ) → k < ring_degree → IsNear cipher_modulus bound (phase key ct k) (scale * slice_index plain k)
 
 -- what a coefficient opens to: t·x / q, rounded to the nearest whole number, modulo t
-unfoldable pub opened : ℕ → ℕ
-opened x = (2 * plain_modulus * x + cipher_modulus) / (2 * cipher_modulus) % plain_modulus
+unfoldable pub opened_coefficient : ℕ → ℕ
+opened_coefficient x = (2 * plain_modulus * x + cipher_modulus) / (2 * cipher_modulus) % plain_modulus
 
 -- the plaintext that a ciphertext opens to under a key
 unfoldable pub opening : List ℤ → List (List ℕ) → List ℕ
-opening key ct = table ring_degree (λ k. opened (phase key ct k))
+opening key ct = table ring_degree (λ k. opened_coefficient (phase key ct k))

@@ -5,7 +5,7 @@ ghost use Rattle.psi_residue.specs.Numbers.{first_modulus, modulus_of, plain_mod
 ghost use Rattle.psi_residue.specs.declared.numbers.Modulus.TheVariants as moduli;
 ghost use Rattle.psi_residue.specs.Residues.{composed};
 ghost use Rattle.psi_residue.specs.Polynomials.{IsPolynomial};
-ghost use Rattle.bfv_core.specs.Encryptions.{phase_residue, opened, opening};
+ghost use Rattle.bfv_core.specs.Encryptions.{phase_residue, opened_coefficient, opening};
 
 use crate::ciphertext::Ciphertext;
 use crate::key::SecretKey;
@@ -61,7 +61,7 @@ fn write_phase(m: Modulus, key: &SecretKey, c0: &[u64], c1: &[u64], out: &mut [u
 fn opened(a: u64, b: u64) -> u32
     requires first { a < first_modulus }
     requires second { b < second_modulus }
-    ensures nearest { result ≡ opened (composed a b) }
+    ensures nearest { result ≡ opened_coefficient (composed a b) }
     ensures below { result < plain_modulus }
 {
     let rest = multiple(a, b);

@@ -19,7 +19,7 @@ use Rattle.negacyclic.proofs.TransformLaws.{length-values_of, values_of-polynomi
 use Rattle.psi_bundle.specs.declared.member.Member.{Member}
 use Rattle.psi_bundle.specs.Planes.{packed_plane, planes_of_bundle}
 use Rattle.bundle_cache.specs.Caches.{bundle_row, bundle_rows, rows_of_bundle, transforms_of}
-use Rattle.bundle_cache.specs.Queries.{ciphertext_of, modulus_at, scaled_values}
+use Rattle.bundle_cache.specs.Queries.{ciphertext_of, modulus_of_list, scaled_values}
 
 -- ---- one row
 
@@ -72,10 +72,10 @@ rest-half row xs size is =
     ap (λ (n : ℕ). take n (drop 4096 row)) (sym half) ∙ take-length (drop 4096 row) ∙ ap (drop 4096) is ∙ second-half xs
 
 -- the modulus of a list's number
-pub even-at : (l : ℕ) (xs : List ℕ) → l % 2 ≡ 0 → values_of moduli.Q1 xs ≡ values_of (modulus_at l) xs
+pub even-at : (l : ℕ) (xs : List ℕ) → l % 2 ≡ 0 → values_of moduli.Q1 xs ≡ values_of (modulus_of_list l) xs
 even-at l xs e = ap (λ (b : Bool). values_of (if b then moduli.Q1 else moduli.Q2) xs) (sym (eq-eqb (l % 2) 0 e))
 
-pub odd-at : (l : ℕ) (xs : List ℕ) → (l % 2 ≡ 0 → ⊥) → values_of moduli.Q2 xs ≡ values_of (modulus_at l) xs
+pub odd-at : (l : ℕ) (xs : List ℕ) → (l % 2 ≡ 0 → ⊥) → values_of moduli.Q2 xs ≡ values_of (modulus_of_list l) xs
 odd-at l xs ne = ap (λ (b : Bool). values_of (if b then moduli.Q1 else moduli.Q2) xs) (sym (ne_eqb (l % 2) 0 ne))
 
 -- ---- the ciphertexts of a query
@@ -83,14 +83,14 @@ odd-at l xs ne = ap (λ (b : Bool). values_of (if b then moduli.Q1 else moduli.Q
 pub place-within : (row rows capacity power : ℕ) → row < rows → power < capacity → row * capacity + power < rows * capacity
 place-within row rows capacity power lt below = let within = mul-add-lt row capacity power rows lt below in omega (arith, within)
 
-pub list_modulus-at : (l : ℕ) → l < 4 → list_modulus l ≡ modulus_of (modulus_at l)
+pub list_modulus-at : (l : ℕ) → l < 4 → list_modulus l ≡ modulus_of (modulus_of_list l)
 list_modulus-at zero lt = refl
 list_modulus-at (suc zero) lt = refl
 list_modulus-at (suc (suc zero)) lt = refl
 list_modulus-at (suc (suc (suc zero))) lt = refl
 list_modulus-at (suc (suc (suc (suc l)))) lt = absurd (omega arith)
 
-pub list-ciphertext_of : (values : List (List ℕ)) (l : ℕ) → l < 4 → list_at (ciphertext_of values) l ≡ polynomial_of (modulus_at l) (list_at values l)
+pub list-ciphertext_of : (values : List (List ℕ)) (l : ℕ) → l < 4 → list_at (ciphertext_of values) l ≡ polynomial_of (modulus_of_list l) (list_at values l)
 unfolding ciphertext_of
 list-ciphertext_of values zero lt = refl
 list-ciphertext_of values (suc zero) lt = refl
@@ -100,16 +100,16 @@ list-ciphertext_of values (suc (suc (suc (suc l)))) lt = absurd (omega arith)
 
 -- a list of transforms is that of the query's ciphertext there
 pub list-of_query : (kept : List (List (List ℕ))) (place l : ℕ) (ct d : List (List ℕ)) → l < 4 → place < length kept → ct ≡ get_or kept place d
-    → list_at (ciphertext_at (map ciphertext_of kept) place) l ≡ polynomial_of (modulus_at l) (list_at ct l)
+    → list_at (ciphertext_at (map ciphertext_of kept) place) l ≡ polynomial_of (modulus_of_list l) (list_at ct l)
 list-of_query kept place l ct d lt within is =
     ap (λ (x : List (List ℕ)). list_at x l) (get_or-map ciphertext_of kept place d [] within ∙ ap ciphertext_of (sym is))
     ∙ list-ciphertext_of ct l lt
 
 pub values-of_query : (kept : List (List (List ℕ))) (place l : ℕ) (ct d : List (List ℕ)) → l < 4 → place < length kept → ct ≡ get_or kept place d
-    → IsPolynomial (list_modulus l) (list_at ct l) → list_at ct l ≡ values_of (modulus_at l) (list_at (ciphertext_at (map ciphertext_of kept) place) l)
+    → IsPolynomial (list_modulus l) (list_at ct l) → list_at ct l ≡ values_of (modulus_of_list l) (list_at (ciphertext_at (map ciphertext_of kept) place) l)
 values-of_query kept place l ct d lt within is polynomial =
     let below = subst (λ (q : ℕ). IsPolynomial q (list_at ct l)) (list_modulus-at l lt) polynomial in
-    sym (ap (values_of (modulus_at l)) (list-of_query kept place l ct d lt within is) ∙ values_of-polynomial_of (modulus_at l) (list_at ct l) below)
+    sym (ap (values_of (modulus_of_list l)) (list-of_query kept place l ct d lt within is) ∙ values_of-polynomial_of (modulus_of_list l) (list_at ct l) below)
 
 -- numbers below the plaintext modulus are residues in each list
 pub small-list : (xs : List ℕ) (l : ℕ) → IsPolynomial 65537 xs → IsPolynomial (list_modulus l) xs
@@ -123,22 +123,22 @@ small-list xs l plain = record { size = plain.size; below = λ i lt. let small =
 
 pub record AreTransformed (start ct : List (List ℕ)) (count : ℕ) : Type 0 where
   pub size : length ct ≡ length start
-  pub done : (k : ℕ) → k < count → polynomial_of (modulus_at k) (list_at ct k) ≡ list_at start k
+  pub done : (k : ℕ) → k < count → polynomial_of (modulus_of_list k) (list_at ct k) ≡ list_at start k
   pub rest : (k : ℕ) → count ≤ k → list_at ct k ≡ list_at start k
 
 pub transformed-none : (start : List (List ℕ)) → AreTransformed start start 0
 transformed-none start = record { size = refl; done = λ k lt. absurd (omega arith); rest = λ k le. refl }
 
 pub transformed-more : (start ct ct' : List (List ℕ)) (l : ℕ) (values : List ℕ) → l < length ct → ct' ≡ set ct l values
-    → polynomial_of (modulus_at l) values ≡ list_at ct l → AreTransformed start ct l → AreTransformed start ct' (l + 1)
+    → polynomial_of (modulus_of_list l) values ≡ list_at ct l → AreTransformed start ct l → AreTransformed start ct' (l + 1)
 transformed-more start ct ct' l values within is undone h =
     subst (λ (c : List (List ℕ)). AreTransformed start c (l + 1)) (sym is)
     (record {
       size = length-set ct l values ∙ h.size;
       done = λ k lt.
           elim (cases_eq k l) [
-            | inl same ↦ (λ i. polynomial_of (modulus_at (same i)) (get_or (set ct l values) (same i) [])) ∙ ap (polynomial_of (modulus_at l)) (get_or-set_same ct l values [] within) ∙ undone ∙ h.rest l (omega arith) ∙ ap (list_at start) (sym same)
-            | inr other ↦ ap (polynomial_of (modulus_at k)) (get_or-set_other ct l k values [] other) ∙ h.done k (omega (arith, other))
+            | inl same ↦ (λ i. polynomial_of (modulus_of_list (same i)) (get_or (set ct l values) (same i) [])) ∙ ap (polynomial_of (modulus_of_list l)) (get_or-set_same ct l values [] within) ∙ undone ∙ h.rest l (omega arith) ∙ ap (list_at start) (sym same)
+            | inr other ↦ ap (polynomial_of (modulus_of_list k)) (get_or-set_other ct l k values [] other) ∙ h.done k (omega (arith, other))
           ];
       rest = λ k le. get_or-set_other ct l k values [] (λ e. absurd (omega (arith, e))) ∙ h.rest k (omega arith);
     })

@@ -20,7 +20,7 @@ use Rattle.bfv_core.proofs.Scaling.{plain-below}
 use Rattle.negacyclic.specs.Laws.{sum_modulo}
 use Rattle.negacyclic.specs.Transforms.{values_of, polynomial_of, with_products}
 use Rattle.negacyclic.proofs.TransformLaws.{length-values_of, get_or-values_of, value-same, values_of_products, polynomial_of-values_of}
-use Rattle.bundle_cache.specs.Queries.{modulus_at, scaled_values}
+use Rattle.bundle_cache.specs.Queries.{modulus_of_list, scaled_values}
 
 -- ---- a factor of all coefficients
 
@@ -115,7 +115,7 @@ values-end m of_c0 count factors lists =
 -- ---- the four lists
 
 pub list-evaluated : (l count : ℕ) (factors : ℕ → List ℕ) (cts : ℕ → List (List ℕ)) → l < 4
-    → list_at (evaluated count factors cts) l ≡ table 4096 (evaluated_at (modulus_of (modulus_at l)) (nat_lt l 2) count factors (λ k. list_at (cts k) l))
+    → list_at (evaluated count factors cts) l ≡ table 4096 (evaluated_at (modulus_of (modulus_of_list l)) (nat_lt l 2) count factors (λ k. list_at (cts k) l))
 unfolding evaluated
 list-evaluated zero count factors cts lt = refl
 list-evaluated (suc zero) count factors cts lt = refl

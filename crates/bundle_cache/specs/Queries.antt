@@ -11,8 +11,8 @@ use Rattle.row_block.specs.Rows.{Block}
 use Rattle.bundle_cache.specs.Caches.{IsBundleBlock}
 
 -- the modulus of residue list number l of a ciphertext
-abbrev pub modulus_at : ℕ → Modulus
-modulus_at l = if l % 2 == 0 then moduli.Q1 else moduli.Q2
+abbrev pub modulus_of_list : ℕ → Modulus
+modulus_of_list l = if l % 2 == 0 then moduli.Q1 else moduli.Q2
 
 -- the ciphertext whose four residue lists have these values
 unfoldable pub ciphertext_of : List (List ℕ) → List (List ℕ)

@@ -8,7 +8,7 @@ ghost use Rattle.negacyclic.specs.Transforms.{values_of};
 ghost use Rattle.psi_bundle.specs.Planes.{packed_plane, planes_of_bundle};
 ghost use Rattle.row_block.specs.Rows.{cleared};
 ghost use Rattle.bundle_cache.specs.Caches.{IsCacheable, bundle_rows, holding, row_words, rows_of_bundle, transforms_of};
-ghost use Rattle.bundle_cache.specs.Queries.{modulus_at};
+ghost use Rattle.bundle_cache.specs.Queries.{modulus_of_list};
 
 use crate::columns::columns_of_plane;
 use crate::rows::push_columns;
@@ -130,8 +130,8 @@ impl Cache {
         requires plane { plane < planes_of_bundle self.now.parameters }
         requires power { k ≤ self.now.parameters.capacity }
         requires list { list < 4 }
-        ensures values { result.now ≡ values_of (modulus_at list) (packed_plane self.now.parameters self.now.bins plane k) }
-        ensures reduced { IsPolynomial (modulus_of (modulus_at list)) result.now }
+        ensures values { result.now ≡ values_of (modulus_of_list list) (packed_plane self.now.parameters self.now.bins plane k) }
+        ensures reduced { IsPolynomial (modulus_of (modulus_of_list list)) result.now }
     {
         let row = self.row(plane, k);
         if list % 2 == 0 { &row[..N] } else { &row[N..] }

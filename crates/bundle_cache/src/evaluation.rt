@@ -6,7 +6,7 @@ ghost use Rattle.psi_residue.specs.Polynomials.{IsPolynomial};
 ghost use Rattle.negacyclic.specs.Transforms.{values_of};
 ghost use Rattle.psi_bundle.specs.Bodies.{evaluated_bundle, evaluated_plane};
 ghost use Rattle.psi_bundle.specs.Planes.{packed_plane, planes_of_bundle};
-ghost use Rattle.bundle_cache.specs.Queries.{modulus_at, scaled_values};
+ghost use Rattle.bundle_cache.specs.Queries.{modulus_of_list, scaled_values};
 
 use crate::cache::Cache;
 use crate::powers::{Powers, list_modulus};
@@ -84,7 +84,7 @@ fn evaluate_list(cache: &Cache, powers: &Powers, row: u8, plane: usize, list: u8
 
 // Writes what the constant coefficient adds to residue list number `list`: in c0 the scale times it, in c1 nothing.
 fn write_constant(m: Modulus, list: u8, constant: &[u64], sum: &mut [u64])
-    requires modulus { m ≡ modulus_at list }
+    requires modulus { m ≡ modulus_of_list list }
     requires constant { IsPolynomial (modulus_of m) constant.now }
     requires places { length sum.old ≡ ring_degree }
     ensures scaled { sum.new ≡ scaled_values (modulus_of m) (nat_lt list 2) constant.now }

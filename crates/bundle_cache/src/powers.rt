@@ -5,7 +5,7 @@ ghost use Rattle.psi_residue.specs.Numbers.{modulus_of};
 ghost use Rattle.psi_residue.specs.Polynomials.{IsPolynomial};
 ghost use Rattle.noise_ledger.specs.Verdicts.{ciphertexts_of, parameters_of};
 ghost use Rattle.negacyclic.specs.Transforms.{values_of};
-ghost use Rattle.bundle_cache.specs.Queries.{ciphertext_of, modulus_at};
+ghost use Rattle.bundle_cache.specs.Queries.{ciphertext_of, modulus_of_list};
 
 use bfv_core::Ciphertext;
 use negacyclic::forward;
@@ -56,9 +56,9 @@ impl Powers {
         requires row { row < self.now.parameters.rows }
         requires power { power < self.now.parameters.capacity }
         requires list { list < 4 }
-        ensures values { result.now ≡ values_of (modulus_at list) (list_at (ciphertext_at self.now.query (row * self.now.parameters.capacity + power)) list) }
-        ensures reduced { IsPolynomial (modulus_of (modulus_at list)) result.now }
-        ensures polynomial { IsPolynomial (modulus_of (modulus_at list)) (list_at (ciphertext_at self.now.query (row * self.now.parameters.capacity + power)) list) }
+        ensures values { result.now ≡ values_of (modulus_of_list list) (list_at (ciphertext_at self.now.query (row * self.now.parameters.capacity + power)) list) }
+        ensures reduced { IsPolynomial (modulus_of (modulus_of_list list)) result.now }
+        ensures polynomial { IsPolynomial (modulus_of (modulus_of_list list)) (list_at (ciphertext_at self.now.query (row * self.now.parameters.capacity + power)) list) }
     {
         let place = usize::from(row) * usize::from(self.params.capacity) + power;
         self.transforms[place].residues(list)
@@ -67,7 +67,7 @@ impl Powers {
 
 /// The modulus of residue list number `list`.
 pub fn list_modulus(list: u8) -> Modulus
-    ensures { result ≡ modulus_at list }
+    ensures { result ≡ modulus_of_list list }
 {
     if list % 2 == 0 {
         Modulus::Q1

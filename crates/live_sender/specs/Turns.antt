@@ -25,8 +25,8 @@ abbrev pub Known : Type 0
 Known = View Entry Origin
 
 -- what the first seat knows, where a sender is opened over this book
-abbrev pub opened : {C : Type 0} → Contents C → Known
-opened h = opener origin_of (λ b. b.journal) h
+abbrev pub first_seat : {C : Type 0} → Contents C → Known
+first_seat h = opener origin_of (λ b. b.journal) h
 
 -- One turn of a seat, from v to w: it has seen a history of this origin, which begins with all that it had seen and taken in
 pub record Went (z : Origin) (v w : Known) : Type 0 where

@@ -15,7 +15,7 @@ ghost use Rattle.sender_core.specs.Tries.{job_of};
 ghost use Rattle.sender_core.specs.Answers.{answer_of_put, answer_of_drop, answer_of_repack};
 ghost use Rattle.live_sender.specs.declared.origin.Origin.{Origin};
 ghost use Rattle.live_sender.specs.Histories.{origin_of, first_version, IsHistory, IsBookOf};
-ghost use Rattle.live_sender.specs.Turns.{opened, Went, Entered, Stayed, Refused, ShowsAt, ViewsRow, IsGivenAt};
+ghost use Rattle.live_sender.specs.Turns.{first_seat, Went, Entered, Stayed, Refused, ShowsAt, ViewsRow, IsGivenAt};
 ghost use Rattle.live_sender.specs.Tries.{IsTriedAt, NamesIfInstalled};
 
 use crate::entering::{Asks, Drops, Puts, Repacks};
@@ -59,7 +59,7 @@ impl<C: Cached + Drop> Sender<C> {
     /// 2^32. Where there is no memory, the book comes back as it was.
     pub fn open(alloc: Global, book: Book<C>) -> Result<(Sender<C>, Seat<C>), OpenRefused<Book<C>>>
         ensures here { IfOk result (λ t. t.1.turnstile ≡ t.0) }
-        ensures seat { IfOk result (λ t. t.1.knows ≡ opened book) }
+        ensures seat { IfOk result (λ t. t.1.knows ≡ first_seat book) }
         ensures history { IsHistory (origin_of book) book.journal }
         ensures refused { IfErr result (λ r. r.book ≡ book) }
     {

@@ -4,7 +4,7 @@ use Rattle.std.proofs.lemmas.Bool.{cases_eq, cases_lt}
 use Rattle.std.proofs.lemmas.Nat.{same_from_place, mul-add-lt, div_below}
 use Rattle.std.proofs.Math.Nat.{mod-lt, div-add-mod}
 use Rattle.psi_residue.specs.Polynomials.{IsPolynomial}
-use Rattle.negacyclic.specs.Butterflies.{IsCrossed, IsUncrossed, AreBelow, AreSame, AreCrossed, AreUncrossed, QuartersBelow, QuartersKept, ArePlaced, StepsBelow, StepsKept, AreReplaced}
+use Rattle.negacyclic.specs.Butterflies.{IsCrossed, IsUncrossed, AreFourBelow, AreSame, AreCrossed, AreUncrossed, QuartersBelow, QuartersKept, ArePlaced, StepsBelow, StepsKept, AreReplaced}
 
 -- ---- rows and places
 
@@ -42,7 +42,7 @@ same_crossed q w1 w2 w3 x0 x1 x2 x3 a b c d e f g h same crossed = record {
   fourth = ap (λ (u : ℕ). (u + (w1 * x2 + w3 * x1)) % q) same.fourth ∙ crossed.fourth;
 }
 
-same_below : (bound a b c d e f g h : ℕ) → AreSame e f g h a b c d → AreBelow bound a b c d → AreBelow bound e f g h
+same_below : (bound a b c d e f g h : ℕ) → AreSame e f g h a b c d → AreFourBelow bound a b c d → AreFourBelow bound e f g h
 same_below bound a b c d e f g h same below = record {
   first = rw same.first below.first;
   second = rw same.second below.second;
@@ -50,7 +50,7 @@ same_below bound a b c d e f g h same below = record {
   fourth = rw same.fourth below.fourth;
 }
 
-pub wider_below : (low high a b c d : ℕ) → low ≤ high → AreBelow low a b c d → AreBelow high a b c d
+pub wider_below : (low high a b c d : ℕ) → low ≤ high → AreFourBelow low a b c d → AreFourBelow high a b c d
 wider_below low high a b c d le below = record {
   first = omega (arith, below.first);
   second = omega (arith, below.second);

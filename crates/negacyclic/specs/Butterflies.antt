@@ -42,7 +42,7 @@ pub record IsUncrossed (q w1 w2 w3 y0 y1 y2 y3 x0 x1 x2 x3 : ℕ) : Type 0 where
   pub fourth : (x3 + w1 * (w2 * y2 + w3 * y1)) % q ≡ (w1 * (w2 * y0 + w3 * y3)) % q
 
 -- four numbers below a bound
-pub record AreBelow (bound a b c d : ℕ) : Type 0 where
+pub record AreFourBelow (bound a b c d : ℕ) : Type 0 where
   pub first : a < bound
   pub second : b < bound
   pub third : c < bound
@@ -66,7 +66,7 @@ AreCrossed q w1 w2 w3 h at place from to =
 
 -- the four quarters at a place are below a bound
 abbrev pub QuartersBelow : (bound place : ℕ) → List ℕ → Type 0
-QuartersBelow bound place to = AreBelow bound (slice_index to place) (slice_index to (place + 1024)) (slice_index to (place + 2048)) (slice_index to (place + 3072))
+QuartersBelow bound place to = AreFourBelow bound (slice_index to place) (slice_index to (place + 1024)) (slice_index to (place + 2048)) (slice_index to (place + 3072))
 
 -- the four quarters are as they were, but at one place
 pub record QuartersKept (place : ℕ) (before after : List ℕ) : Type 0 where
@@ -90,7 +90,7 @@ AreUncrossed q w1 w2 w3 h at place from to =
 
 -- the four places, h apart, are below a bound
 abbrev pub StepsBelow : (bound h at : ℕ) → List ℕ → Type 0
-StepsBelow bound h at to = AreBelow bound (slice_index to at) (slice_index to (at + h)) (slice_index to (at + 2 * h)) (slice_index to (at + 3 * h))
+StepsBelow bound h at to = AreFourBelow bound (slice_index to at) (slice_index to (at + h)) (slice_index to (at + 2 * h)) (slice_index to (at + 3 * h))
 
 -- all places are as they were, but four, h apart
 pub record StepsKept (h at : ℕ) (before after : List ℕ) : Type 0 where

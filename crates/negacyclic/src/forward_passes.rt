@@ -5,7 +5,7 @@ ghost use Rattle.std.specs.Prelude.{◌≡◌, ℕ, ◌+◌, ◌*◌, ◌%◌, �
 ghost use Rattle.psi_residue.specs.Polynomials.{IsPolynomial};
 ghost use Rattle.psi_residue.specs.Slots.{value_at_odd};
 ghost use Rattle.psi_residue.specs.Sums.{table};
-ghost use Rattle.negacyclic.specs.Butterflies.{AreBelow, AreCrossed, AreFactors, ArePlaced, AreWeights, IsCrossed, IsFactor, IsTable, QuartersBelow, QuartersKept, numbers_of};
+ghost use Rattle.negacyclic.specs.Butterflies.{AreFourBelow, AreCrossed, AreFactors, ArePlaced, AreWeights, IsCrossed, IsFactor, IsTable, QuartersBelow, QuartersKept, numbers_of};
 
 use crate::factors::{Factor, Weights, product, reduced_product};
 use psi_residue::N;
@@ -15,9 +15,9 @@ use psi_residue::N;
 fn cross(q: u64, w: Weights, x0: u64, x1: u64, x2: u64, x3: u64) -> (u64, u64, u64, u64)
     requires modulus { q < 2 ^ 40 }
     requires weights { AreWeights q w }
-    requires below { AreBelow (2 ^ 60) x0 x1 x2 x3 }
+    requires below { AreFourBelow (2 ^ 60) x0 x1 x2 x3 }
     ensures crossed { IsCrossed q w.first.number w.second.number w.third.number x0 x1 x2 x3 result.0 result.1 result.2 result.3 }
-    ensures below { AreBelow (x0 + 4 * q + 1) result.0 result.1 result.2 result.3 }
+    ensures below { AreFourBelow (x0 + 4 * q + 1) result.0 result.1 result.2 result.3 }
 {
     let v2 = product(q, w.first, x2);
     let v3 = product(q, w.first, x3);
@@ -128,9 +128,9 @@ fn reduced_cross(
     requires modulus { q < 2 ^ 40 }
     requires one { IsFactor q one.number one.quotient × (one.number ≡ 1) }
     requires weights { AreWeights q w }
-    requires below { AreBelow (2 ^ 60) x0 x1 x2 x3 }
+    requires below { AreFourBelow (2 ^ 60) x0 x1 x2 x3 }
     ensures crossed { IsCrossed q w.first.number w.second.number w.third.number x0 x1 x2 x3 result.0 result.1 result.2 result.3 }
-    ensures below { AreBelow q result.0 result.1 result.2 result.3 }
+    ensures below { AreFourBelow q result.0 result.1 result.2 result.3 }
 {
     let (y0, y1, y2, y3) = cross(q, w, x0, x1, x2, x3);
     (

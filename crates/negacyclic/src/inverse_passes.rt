@@ -4,7 +4,7 @@ ghost use Rattle.std.specs.Prelude.{◌≡◌, ℕ, ◌+◌, ◌-◌, ◌*◌, �
 ghost use Rattle.psi_residue.specs.Polynomials.{IsPolynomial};
 ghost use Rattle.psi_residue.specs.Slots.{coefficient_from};
 ghost use Rattle.psi_residue.specs.Sums.{table};
-ghost use Rattle.negacyclic.specs.Butterflies.{AreBelow, AreFactors, AreReplaced, AreUncrossed, AreWeights, IsFactor, IsTable, IsUncrossed, StepsBelow, StepsKept, numbers_of};
+ghost use Rattle.negacyclic.specs.Butterflies.{AreFourBelow, AreFactors, AreReplaced, AreUncrossed, AreWeights, IsFactor, IsTable, IsUncrossed, StepsBelow, StepsKept, numbers_of};
 
 use crate::factors::{Factor, Weights, product, reduced_product};
 use psi_residue::N;
@@ -16,9 +16,9 @@ fn uncross(q: u64, top: u64, w: Weights, y0: u64, y1: u64, y2: u64, y3: u64) -> 
     requires multiple { top % q ≡ 0 }
     requires small { top < 2 ^ 60 }
     requires weights { AreWeights q w }
-    requires below { AreBelow top y0 y1 y2 y3 }
+    requires below { AreFourBelow top y0 y1 y2 y3 }
     ensures uncrossed { IsUncrossed q w.first.number w.second.number w.third.number y0 y1 y2 y3 result.0 result.1 result.2 result.3 }
-    ensures below { AreBelow (4 * top) result.0 result.1 result.2 result.3 }
+    ensures below { AreFourBelow (4 * top) result.0 result.1 result.2 result.3 }
 {
     let a0 = y0 + y2;
     let b0 = y1 + y3;

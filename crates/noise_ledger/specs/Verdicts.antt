@@ -43,12 +43,12 @@ abbrev pub ciphertexts_of : Parameters → ℕ
 ciphertexts_of p = p.rows * p.capacity
 
 -- the cells of one bundle in each row: one for each row, plane and coefficient of a bin's polynomials
-abbrev pub cells_of : Parameters → ℕ
-cells_of p = p.rows * (1 + p.units) * (p.capacity + 1)
+abbrev pub least_cells : Parameters → ℕ
+least_cells p = p.rows * (1 + p.units) * (p.capacity + 1)
 
 -- a query and one bundle in each row have an allowed size
 abbrev pub has_size : Parameters → Bool
-has_size p = nat_le (ciphertexts_of p) 2400 && nat_le (cells_of p) 4096
+has_size p = nat_le (ciphertexts_of p) 2400 && nat_le (least_cells p) 4096
 
 -- the ledger of the parameters
 abbrev pub ledger_of : Parameters → Ledger
@@ -61,7 +61,7 @@ judged_by_noise p = if nat_lt (used_of p) cipher_modulus then Ok (ledger_of p) e
 -- by the first field that is not allowed, then by the size, then by the noise
 abbrev pub judged_by : Option ℕ → Parameters → Result Ledger ParamFault
 judged_by (Some offset) p = Err (faults.Range offset)
-judged_by None p = if has_size p then judged_by_noise p else Err (faults.Size (ciphertexts_of p) (cells_of p))
+judged_by None p = if has_size p then judged_by_noise p else Err (faults.Size (ciphertexts_of p) (least_cells p))
 
 -- what parameters come to: their ledger, or why they are refused
 abbrev pub judged : Parameters → Result Ledger ParamFault

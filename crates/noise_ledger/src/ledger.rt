@@ -1,7 +1,7 @@
 //! The ledger of parameters, and their check.
 ghost use Rattle.std.specs.Prelude.{◌≡◌, ◌<◌, ◌^◌, ◌↔◌, IsNone, IsOk};
 ghost use Rattle.noise_ledger.specs.Ledgers.{carry_of, noise_of, used_of};
-ghost use Rattle.noise_ledger.specs.Verdicts.{parameters_of, range_fault, ciphertexts_of, cells_of, judged, ledger_of, AreInRange, ArePassed};
+ghost use Rattle.noise_ledger.specs.Verdicts.{parameters_of, range_fault, ciphertexts_of, least_cells, judged, ledger_of, AreInRange, ArePassed};
 
 use crate::params::Params;
 use psi_residue::{N, Q, R, T};
@@ -107,7 +107,7 @@ fn ciphertexts(params: &Params) -> u32
 
 // The cells of one bundle in each row.
 fn cells(params: &Params) -> u32
-    ensures { result ≡ cells_of (parameters_of params.now) }
+    ensures { result ≡ least_cells (parameters_of params.now) }
 {
     u32::from(params.rows) * (1 + u32::from(params.units)) * (u32::from(params.capacity) + 1)
 }

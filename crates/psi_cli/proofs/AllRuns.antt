@@ -5,10 +5,10 @@ use Rattle.psi_words.specs.declared.command.Command.TheVariants as command
 use Rattle.psi_cli.specs.declared.threaded.Threaded.{Threaded}
 use Rattle.psi_cli.specs.declared.threaded.Threaded.TheVariants as threaded
 use Rattle.psi_cli.specs.Commands.{word_parameters}
-use Rattle.psi_cli.specs.Runs.{Asks, AsksNoThreads, Judged, Runs, RunsPlain, RunsRounds, RunsThreads, Shows}
+use Rattle.psi_cli.specs.Runs.{AsksThreads, AsksNoThreads, Judged, Runs, RunsPlain, RunsRounds, RunsThreads, Shows}
 use Rattle.psi_cli.specs.Worlds.{World, ends_of}
 
-pub threads_run : (r : Judged) (asked : Threaded) (old new : World) (n : ℕ) → Asks r asked → RunsThreads asked (ends_of old) (ends_of new) n → new.given.files_failed ≡ old.given.files_failed → Runs r old new n
+pub threads_run : (r : Judged) (asked : Threaded) (old new : World) (n : ℕ) → AsksThreads r asked → RunsThreads asked (ends_of old) (ends_of new) n → new.given.files_failed ≡ old.given.files_failed → Runs r old new n
 threads_run (Ok (command.Serve rows capacity units dropped counted workers builders)) (threaded.Serve params shape) old new n is runs file =
     record {
       rounds = subst (λ (w : ℕ). RunsRounds (word_parameters rows capacity units dropped counted) (nat_eq w 1) (ends_of old) (ends_of new) n) is.1

@@ -41,7 +41,7 @@ use Rattle.psi_cli.specs.Opening.{IsBadOpening, OpensNothing}
 use Rattle.psi_cli.specs.Outcomes.{AreCrowded, AreFigures, AreFound, AskMakes, AsksText, HasAnswer, IsAskFrame, IsNoAnswer, IsRefusal, Makes, OpenMakes, OpensFile, OpensText, ParamsMake}
 use Rattle.psi_cli.specs.Reading.{AsksNothing}
 use Rattle.psi_cli.specs.Runs.{GivesNone, GivesNoPlain, IsRefused, Judged, Runs, RunsPlain, RunsRounds, RunsWhole, ServedSo, Shows, ShowsDemo, held_of}
-use Rattle.psi_cli.specs.Statuses.{IsBadOrFails, IsCrowdedOrFails, IsDoneOrFails, IsEmptyNumber, IsReadWhole, IsRefusedOrFails, IsStatus, IsUnreadStatus, number_of}
+use Rattle.psi_cli.specs.Statuses.{IsBadOrFails, IsCrowdedOrFails, IsDoneOrFails, IsEmptyNumber, IsReadWhole, IsRefusedOrFails, IsStatus, IsUnreadStatus, status_number}
 use Rattle.psi_cli.specs.Worlds.{Given, Held, NoReadFailed, ReadFailed, World, ends_of, IsFlushedSo}
 use Rattle.psi_cli.proofs.QueryOpenings.{answers-open}
 use Rattle.psi_cli.proofs.Shown.{spellable}
@@ -59,7 +59,7 @@ status_at n =
     else (if nat_eq n 6 then status.WriteFault
     else (if nat_eq n 7 then status.NoMemory else status.Crowded))))))
 
-at_number : (s : Status) → status_at (number_of s) ≡ s
+at_number : (s : Status) → status_at (status_number s) ≡ s
 unfolding status_at
 at_number status.Done = refl
 at_number status.Words = refl
@@ -71,7 +71,7 @@ at_number status.NoMemory = refl
 at_number status.Crowded = refl
 
 -- a run with the number of a status ended with it
-pub by_status : (c : Command) (old new : World) (n : ℕ) (t : Status) → RunsWhole c old new n → n ≡ number_of t → Leaves c old new t
+pub by_status : (c : Command) (old new : World) (n : ℕ) (t : Status) → RunsWhole c old new n → n ≡ status_number t → Leaves c old new t
 by_status c old new n t runs e = subst (Leaves c old new) (sym (at_number runs.0) ∙ ap status_at (sym runs.1 ∙ e) ∙ at_number t) runs.2
 
 -- what a command makes has one of three statuses
@@ -213,10 +213,10 @@ no_words c old new (inr (inr w)) = words_given_up (gave_up_so c old.given new.gi
 -- by the number of its status, a run that reads its input whole ..
 module _ (c : Command) (old new : World) (n : ℕ) (runs : RunsWhole c old new n) where
   -- .. has written, gave up, or was cut off, and never ends with 2
-  wrote : (t : Status) → IsDoneStatus t → n ≡ number_of t → HasWritten c old new t
+  wrote : (t : Status) → IsDoneStatus t → n ≡ status_number t → HasWritten c old new t
   wrote t is e = only_written c old new t is (by_status c old new n t runs e)
 
-  gave_up : (t : Status) → IsEmptyStatus t → n ≡ number_of t → HasGivenUp c old new t
+  gave_up : (t : Status) → IsEmptyStatus t → n ≡ status_number t → HasGivenUp c old new t
   gave_up t is e = only_given_up c old new t is (by_status c old new n t runs e)
 
   was_cut : n ≡ 6 → HasBeenCutOff c old new status.WriteFault
@@ -267,7 +267,7 @@ rounds_words p alone old new n (inl so) e = served_not so.served.status so.leave
 -- ---- the demonstration
 
 -- what it leaves, by the number of its status
-demo_so : (number workers : ℕ) (old new : World) (n : ℕ) → ShowsDemo number workers old new n → (t : Status) → n ≡ number_of t → ShowsSo number workers (held_of (ends_of old)) (held_of (ends_of new)) t
+demo_so : (number workers : ℕ) (old new : World) (n : ℕ) → ShowsDemo number workers old new n → (t : Status) → n ≡ status_number t → ShowsSo number workers (held_of (ends_of old)) (held_of (ends_of new)) t
 demo_so number workers old new n runs t e =
     let shown = runs.shows.shown in
     subst (ShowsSo number workers (held_of (ends_of old)) (held_of (ends_of new))) (sym (at_number shown.0) ∙ ap status_at (sym shown.1 ∙ e) ∙ at_number t) shown.2
@@ -276,7 +276,7 @@ demo_so number workers old new n runs t e =
 script_placed : (number workers : ℕ) (text : List ℕ) → IsDemonstration number workers text → AreUnplaced (asked_tags number) → ⊥
 script_placed number workers text shown none = let placed = shown.script.first_asked.1 in none placed.0 placed.1.placement
 
-demo_unplaced : (number workers : ℕ) (old new : Held) (s : Status) (n : ℕ) → n ≡ number_of s → ShowsSo number workers old new s → AreUnplaced (asked_tags number) → IsCrowdedOrFails n
+demo_unplaced : (number workers : ℕ) (old new : Held) (s : Status) (n : ℕ) → n ≡ status_number s → ShowsSo number workers old new s → AreUnplaced (asked_tags number) → IsCrowdedOrFails n
 demo_unplaced number workers old new status.Done n e shown none = absurd (script_placed number workers shown.0 shown.1 none)
 demo_unplaced number workers old new status.WriteFault n e shown none = inr (inr (inl e))
 demo_unplaced number workers old new status.Crowded n e shown none = inl e
@@ -286,7 +286,7 @@ demo_unplaced number workers old new status.Parameters n e shown none = absurd s
 demo_unplaced number workers old new status.BadInput n e shown none = absurd shown
 demo_unplaced number workers old new status.ReadFault n e shown none = absurd shown
 
-demo_placed : (number workers : ℕ) (old new : Held) (s : Status) (n : ℕ) → n ≡ number_of s → ShowsSo number workers old new s → HavePlacement demo_parameters.rows (asked_tags number) → IsDoneOrFails n
+demo_placed : (number workers : ℕ) (old new : Held) (s : Status) (n : ℕ) → n ≡ status_number s → ShowsSo number workers old new s → HavePlacement demo_parameters.rows (asked_tags number) → IsDoneOrFails n
 demo_placed number workers old new status.Done n e shown placed = inl e
 demo_placed number workers old new status.WriteFault n e shown placed = inr (inr (inl e))
 demo_placed number workers old new status.Crowded n e shown placed = absurd (shown.0 placed.0 placed.1)
@@ -407,7 +407,7 @@ refused (Ok command.Help) old new n runs e =
       | inr w ↦ absurd (let f = w.why in cc)
     ]
 
-refused_asks : (p : Parameters) (left left_now : Option (List ℕ)) (before now : ℕ) (s : Status) (n : ℕ) → n ≡ number_of s → (ArePassed p → ⊥) → AsksNothing p left left_now before now s → IsRefusedOrFails n
+refused_asks : (p : Parameters) (left left_now : Option (List ℕ)) (before now : ℕ) (s : Status) (n : ℕ) → n ≡ status_number s → (ArePassed p → ⊥) → AsksNothing p left left_now before now s → IsRefusedOrFails n
 refused_asks p left left_now before now status.Parameters n e never why = inl e
 refused_asks p left left_now before now status.NoMemory n e never why = inr (inr e)
 refused_asks p left left_now before now status.BadInput n e never why = absurd (never why.0)
@@ -417,7 +417,7 @@ refused_asks p left left_now before now status.Words n e never why = absurd (nev
 refused_asks p left left_now before now status.WriteFault n e never why = absurd (never why.0)
 refused_asks p left left_now before now status.Crowded n e never why = absurd (never why.0)
 
-refused_opens : (p : Parameters) (name : List ℕ) (old new : Given) (s : Status) (n : ℕ) → n ≡ number_of s → (ArePassed p → ⊥) → OpensNothing p name old new s → IsRefusedOrFails n
+refused_opens : (p : Parameters) (name : List ℕ) (old new : Given) (s : Status) (n : ℕ) → n ≡ status_number s → (ArePassed p → ⊥) → OpensNothing p name old new s → IsRefusedOrFails n
 refused_opens p name old new status.Parameters n e never why = inl e
 refused_opens p name old new status.NoMemory n e never why = inr (inr e)
 refused_opens p name old new status.BadInput n e never why = absurd (never why.0)
@@ -427,7 +427,7 @@ refused_opens p name old new status.Words n e never why = absurd (never why.0)
 refused_opens p name old new status.WriteFault n e never why = absurd (never why.0)
 refused_opens p name old new status.Crowded n e never why = absurd (never why.0)
 
-refused_makes : (p : Parameters) (s : Status) (text : List ℕ) (n : ℕ) → n ≡ number_of s → (ArePassed p → ⊥) → ParamsMake p s text → IsRefusedOrFails n
+refused_makes : (p : Parameters) (s : Status) (text : List ℕ) (n : ℕ) → n ≡ status_number s → (ArePassed p → ⊥) → ParamsMake p s text → IsRefusedOrFails n
 refused_makes p status.Parameters text n e never makes = inl e
 refused_makes p status.Done text n e never makes = absurd (never makes.passed)
 refused_makes p status.Words text n e never makes = absurd makes
@@ -449,8 +449,8 @@ refused_only (Ok (command.Serve rows capacity units dropped counted workers buil
     refused_rounds (word_parameters rows capacity units dropped counted) (nat_eq workers 1) (ends_of old) (ends_of new) n runs.rounds never
 refused_only (Ok (command.Replay rows capacity units dropped counted)) old new n runs never = refused_rounds (word_parameters rows capacity units dropped counted) true (ends_of old) (ends_of new) n runs.rounds never
 refused_only (Ok (command.Params rows capacity units dropped counted)) old new n (s, e, inl w) never = refused_makes (word_parameters rows capacity units dropped counted) s w.text n e never w.makes
-refused_only (Ok (command.Params rows capacity units dropped counted)) old new n (s, e, inr (inl w)) never = inr (inl (e ∙ ap number_of w.told))
-refused_only (Ok (command.Params rows capacity units dropped counted)) old new n (s, e, inr (inr w)) never = inr (inr (e ∙ ap number_of w.why))
+refused_only (Ok (command.Params rows capacity units dropped counted)) old new n (s, e, inr (inl w)) never = inr (inl (e ∙ ap status_number w.told))
+refused_only (Ok (command.Params rows capacity units dropped counted)) old new n (s, e, inr (inr w)) never = inr (inr (e ∙ ap status_number w.why))
 refused_only (Ok (command.Ask rows capacity units dropped counted seed session number)) old new n (s, e, inl w) never = absurd (never w.makes.0)
 refused_only (Ok (command.Ask rows capacity units dropped counted seed session number)) old new n (s, e, inr (inl w)) never = absurd (never w.makes.0)
 refused_only (Ok (command.Ask rows capacity units dropped counted seed session number)) old new n (s, e, inr (inr w)) never =
@@ -836,7 +836,7 @@ told_file p seed name text s (Some bytes) (Some known) is makes (inr none) =
     not_both p seed (items_of bytes) makes.body s text makes.makes refused.0 refused.1
 
 -- `ask`, by how it ended
-bad_asks : (p : Parameters) (left left_now : Option (List ℕ)) (before now : ℕ) (s : Status) (n : ℕ) → n ≡ number_of s → ArePassed p → AsksNothing p left left_now before now s → IsBadOrFails n
+bad_asks : (p : Parameters) (left left_now : Option (List ℕ)) (before now : ℕ) (s : Status) (n : ℕ) → n ≡ status_number s → ArePassed p → AsksNothing p left left_now before now s → IsBadOrFails n
 bad_asks p left left_now before now status.Parameters n e passed why = absurd (why.0 passed)
 bad_asks p left left_now before now status.BadInput n e passed why = inl e
 bad_asks p left left_now before now status.ReadFault n e passed why = inr (inl e)
@@ -846,7 +846,7 @@ bad_asks p left left_now before now status.Words n e passed why = absurd why.1
 bad_asks p left left_now before now status.WriteFault n e passed why = absurd why.1
 bad_asks p left left_now before now status.Crowded n e passed why = absurd why.1
 
-bad_opens : (p : Parameters) (name : List ℕ) (old new : Given) (s : Status) (n : ℕ) → n ≡ number_of s → ArePassed p → OpensNothing p name old new s → IsBadOrFails n
+bad_opens : (p : Parameters) (name : List ℕ) (old new : Given) (s : Status) (n : ℕ) → n ≡ status_number s → ArePassed p → OpensNothing p name old new s → IsBadOrFails n
 bad_opens p name old new status.Parameters n e passed why = absurd (why.0 passed)
 bad_opens p name old new status.BadInput n e passed why = inl e
 bad_opens p name old new status.ReadFault n e passed why = inr (inl e)
@@ -885,7 +885,7 @@ not_placed : (p : Parameters) (seed : List ℕ) (session number : ℕ) (text : L
 not_placed p seed session number text None asked none = none
 not_placed p seed session number text (Some bytes) asked none = query_placed p seed session number (items_of bytes) text asked none.1
 
-crowd_asks : (p : Parameters) (left left_now : Option (List ℕ)) (before now : ℕ) (s : Status) (n : ℕ) → n ≡ number_of s → ArePassed p → AsksNothing p left left_now before now s → IsSomeAnd left (λ bytes. IsItemText bytes × HaveNoPlace p.rows bytes) → IsCrowdedOrFails n
+crowd_asks : (p : Parameters) (left left_now : Option (List ℕ)) (before now : ℕ) (s : Status) (n : ℕ) → n ≡ status_number s → ArePassed p → AsksNothing p left left_now before now s → IsSomeAnd left (λ bytes. IsItemText bytes × HaveNoPlace p.rows bytes) → IsCrowdedOrFails n
 crowd_asks p left left_now before now status.Parameters n e passed why none = absurd (why.0 passed)
 crowd_asks p None left_now before now status.BadInput n e passed why none = absurd none
 crowd_asks p (Some bytes) left_now before now status.BadInput n e passed why none = absurd (why.1.0 none.0)
@@ -928,7 +928,7 @@ not_bad p name (Some bytes) (Some known) (inr b) none =
     let placed = (b.refused none.2.0 (subst (λ (f : List ℕ). IsAnswerFile f none.2.0) same none.2.1.answer)).0 in
     none.1 placed.0 placed.1
 
-crowd_opens : (p : Parameters) (name : List ℕ) (old new : Given) (s : Status) (n : ℕ) → n ≡ number_of s → ArePassed p → OpensNothing p name old new s → IsCrowdTold p name old.left old.files → IsCrowdedOrFails n
+crowd_opens : (p : Parameters) (name : List ℕ) (old new : Given) (s : Status) (n : ℕ) → n ≡ status_number s → ArePassed p → OpensNothing p name old new s → IsCrowdTold p name old.left old.files → IsCrowdedOrFails n
 crowd_opens p name old new status.Parameters n e passed why none = absurd (why.0 passed)
 crowd_opens p name old new status.BadInput n e passed why none = absurd (not_bad p name old.left old.files why.1.0 none)
 crowd_opens p name old new status.ReadFault n e passed why none = inr (inl e)
@@ -946,13 +946,13 @@ crowded_only (Ok (command.Params rows capacity units dropped counted)) old new n
 crowded_only (Ok (command.Serve rows capacity units dropped counted workers builders)) old new n runs none = absurd none
 crowded_only (Ok (command.Replay rows capacity units dropped counted)) old new n runs none = absurd none
 crowded_only (Ok (command.Ask rows capacity units dropped counted seed session number)) old new n (s, e, inl w) none =
-    inl (e ∙ ap number_of (ask_crowded (word_parameters rows capacity units dropped counted) seed session number w.text old.given.left s w.makes.1 none.1))
-crowded_only (Ok (command.Ask rows capacity units dropped counted seed session number)) old new n (s, e, inr (inl w)) none = inr (inr (inl (e ∙ ap number_of w.told)))
+    inl (e ∙ ap status_number (ask_crowded (word_parameters rows capacity units dropped counted) seed session number w.text old.given.left s w.makes.1 none.1))
+crowded_only (Ok (command.Ask rows capacity units dropped counted seed session number)) old new n (s, e, inr (inl w)) none = inr (inr (inl (e ∙ ap status_number w.told)))
 crowded_only (Ok (command.Ask rows capacity units dropped counted seed session number)) old new n (s, e, inr (inr w)) none =
     crowd_asks (word_parameters rows capacity units dropped counted) old.given.left new.given.left old.given.reads_failed new.given.reads_failed s n e none.0 w.why.0 none.1
 crowded_only (Ok (command.Open rows capacity units dropped counted seed name)) old new n (s, e, inl w) none =
-    inl (e ∙ ap number_of (open_crowded (word_parameters rows capacity units dropped counted) seed name w.text old.given.left old.given.files s w.makes.1 none.1))
-crowded_only (Ok (command.Open rows capacity units dropped counted seed name)) old new n (s, e, inr (inl w)) none = inr (inr (inl (e ∙ ap number_of w.told)))
+    inl (e ∙ ap status_number (open_crowded (word_parameters rows capacity units dropped counted) seed name w.text old.given.left old.given.files s w.makes.1 none.1))
+crowded_only (Ok (command.Open rows capacity units dropped counted seed name)) old new n (s, e, inr (inl w)) none = inr (inr (inl (e ∙ ap status_number w.told)))
 crowded_only (Ok (command.Open rows capacity units dropped counted seed name)) old new n (s, e, inr (inr w)) none =
     crowd_opens (word_parameters rows capacity units dropped counted) name old.given new.given s n e none.0 w.why none.1
 
@@ -970,7 +970,7 @@ ask_done p seed session number text left s made good = by_end made.ends_so where
   by_end (inl e) = e
   by_end (inr e) = absurd (never left (subst (λ (t : Status). IfSome left (λ bytes. AskMakes p seed session number (items_of bytes) t text)) e made.makes) good)
 
-good_asks : (p : Parameters) (left left_now : Option (List ℕ)) (before now : ℕ) (s : Status) (n : ℕ) → n ≡ number_of s → ArePassed p → AsksNothing p left left_now before now s
+good_asks : (p : Parameters) (left left_now : Option (List ℕ)) (before now : ℕ) (s : Status) (n : ℕ) → n ≡ status_number s → ArePassed p → AsksNothing p left left_now before now s
     → IsSomeAnd left (λ bytes. IsItemText bytes × HavePlacement p.rows (map tag_of (items_of bytes))) → IsDoneOrFails n
 good_asks p left left_now before now status.Parameters n e passed why good = absurd (why.0 passed)
 good_asks p None left_now before now status.BadInput n e passed why good = absurd good
@@ -1006,7 +1006,7 @@ not_refused p name (Some bytes) (Some known) (inr b) good =
     let same : good.2.1.file ≡ b.file = same_some good.2.1.file b.file (sym good.2.1.there ∙ b.there) in
     (b.refused good.2.0 (subst (λ (f : List ℕ). IsAnswerFile f good.2.0) same good.2.1.answer)).1 good.2.2
 
-good_opens : (p : Parameters) (name : List ℕ) (old new : Given) (s : Status) (n : ℕ) → n ≡ number_of s → ArePassed p → OpensNothing p name old new s → IsOpenTold p name old.left old.files → IsDoneOrFails n
+good_opens : (p : Parameters) (name : List ℕ) (old new : Given) (s : Status) (n : ℕ) → n ≡ status_number s → ArePassed p → OpensNothing p name old new s → IsOpenTold p name old.left old.files → IsDoneOrFails n
 good_opens p name old new status.Parameters n e passed why good = absurd (why.0 passed)
 good_opens p name old new status.BadInput n e passed why good = absurd (not_refused p name old.left old.files why.1.0 good)
 good_opens p name old new status.ReadFault n e passed why good = inr (inl e)
@@ -1016,7 +1016,7 @@ good_opens p name old new status.Words n e passed why good = absurd why.1
 good_opens p name old new status.WriteFault n e passed why good = absurd why.1
 good_opens p name old new status.Crowded n e passed why good = absurd why.1
 
-params_done : (p : Parameters) (s : Status) (text : List ℕ) (n : ℕ) → n ≡ number_of s → ArePassed p → ParamsMake p s text → IsDoneOrFails n
+params_done : (p : Parameters) (s : Status) (text : List ℕ) (n : ℕ) → n ≡ status_number s → ArePassed p → ParamsMake p s text → IsDoneOrFails n
 params_done p status.Done text n e passed makes = inl e
 params_done p status.Parameters text n e passed makes = absurd (makes.refused passed)
 params_done p status.Words text n e passed makes = absurd makes
@@ -1031,20 +1031,20 @@ complete (Err fault) old new n runs good = absurd good
 complete (Ok (command.Demo number workers)) old new n runs good = demo_placed number workers (held_of (ends_of old)) (held_of (ends_of new)) runs.shows.shown.0 n runs.shows.shown.1 runs.shows.shown.2 good
 complete (Ok (command.Serve rows capacity units dropped counted workers builders)) old new n runs good = rounds_complete (word_parameters rows capacity units dropped counted) (nat_eq workers 1) (ends_of old) (ends_of new) n runs.rounds good.0 good.1
 complete (Ok (command.Replay rows capacity units dropped counted)) old new n runs good = rounds_complete (word_parameters rows capacity units dropped counted) true (ends_of old) (ends_of new) n runs.rounds good.0 good.1
-complete (Ok command.Help) old new n (s, e, inl w) good = inl (e ∙ ap number_of w.makes.0)
-complete (Ok command.Help) old new n (s, e, inr (inl w)) good = inr (inr (inl (e ∙ ap number_of w.told)))
-complete (Ok command.Help) old new n (s, e, inr (inr w)) good = inr (inr (inr (e ∙ ap number_of w.why)))
+complete (Ok command.Help) old new n (s, e, inl w) good = inl (e ∙ ap status_number w.makes.0)
+complete (Ok command.Help) old new n (s, e, inr (inl w)) good = inr (inr (inl (e ∙ ap status_number w.told)))
+complete (Ok command.Help) old new n (s, e, inr (inr w)) good = inr (inr (inr (e ∙ ap status_number w.why)))
 complete (Ok (command.Params rows capacity units dropped counted)) old new n (s, e, inl w) good = params_done (word_parameters rows capacity units dropped counted) s w.text n e good w.makes
-complete (Ok (command.Params rows capacity units dropped counted)) old new n (s, e, inr (inl w)) good = inr (inr (inl (e ∙ ap number_of w.told)))
-complete (Ok (command.Params rows capacity units dropped counted)) old new n (s, e, inr (inr w)) good = inr (inr (inr (e ∙ ap number_of w.why)))
+complete (Ok (command.Params rows capacity units dropped counted)) old new n (s, e, inr (inl w)) good = inr (inr (inl (e ∙ ap status_number w.told)))
+complete (Ok (command.Params rows capacity units dropped counted)) old new n (s, e, inr (inr w)) good = inr (inr (inr (e ∙ ap status_number w.why)))
 complete (Ok (command.Ask rows capacity units dropped counted seed session number)) old new n (s, e, inl w) good =
-    inl (e ∙ ap number_of (ask_done (word_parameters rows capacity units dropped counted) seed session number w.text old.given.left s w.makes.1 good.1))
-complete (Ok (command.Ask rows capacity units dropped counted seed session number)) old new n (s, e, inr (inl w)) good = inr (inr (inl (e ∙ ap number_of w.told)))
+    inl (e ∙ ap status_number (ask_done (word_parameters rows capacity units dropped counted) seed session number w.text old.given.left s w.makes.1 good.1))
+complete (Ok (command.Ask rows capacity units dropped counted seed session number)) old new n (s, e, inr (inl w)) good = inr (inr (inl (e ∙ ap status_number w.told)))
 complete (Ok (command.Ask rows capacity units dropped counted seed session number)) old new n (s, e, inr (inr w)) good =
     good_asks (word_parameters rows capacity units dropped counted) old.given.left new.given.left old.given.reads_failed new.given.reads_failed s n e good.0 w.why.0 good.1
 complete (Ok (command.Open rows capacity units dropped counted seed name)) old new n (s, e, inl w) good =
-    inl (e ∙ ap number_of (open_done (word_parameters rows capacity units dropped counted) seed name w.text old.given.left old.given.files s w.makes.1 good.1))
-complete (Ok (command.Open rows capacity units dropped counted seed name)) old new n (s, e, inr (inl w)) good = inr (inr (inl (e ∙ ap number_of w.told)))
+    inl (e ∙ ap status_number (open_done (word_parameters rows capacity units dropped counted) seed name w.text old.given.left old.given.files s w.makes.1 good.1))
+complete (Ok (command.Open rows capacity units dropped counted seed name)) old new n (s, e, inr (inl w)) good = inr (inr (inl (e ∙ ap status_number w.told)))
 complete (Ok (command.Open rows capacity units dropped counted seed name)) old new n (s, e, inr (inr w)) good =
     good_opens (word_parameters rows capacity units dropped counted) name old.given new.given s n e good.0 w.why good.1
 

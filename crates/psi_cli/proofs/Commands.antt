@@ -10,7 +10,7 @@ use Rattle.psi_words.specs.declared.command.Command.{Command}
 use Rattle.psi_words.specs.declared.command.Command.TheVariants as command
 use Rattle.psi_words.specs.declared.fault.WordFault.{WordFault}
 use Rattle.psi_words.specs.declared.fault.WordFault.TheVariants as words
-use Rattle.psi_words.specs.Grammar.{KeepsName, Line, Row, first_wrong, forms_of, judged, judged_row, judged_value, lead_forms, lead_of, row_of}
+use Rattle.psi_words.specs.Grammar.{KeepsName, Words, CommandRow, first_wrong, forms_of, judged, judged_row, judged_value, lead_forms, lead_of, row_of}
 use Rattle.psi_cli.specs.declared.outcome.Outcome.{Outcome}
 use Rattle.psi_cli.specs.declared.status.Status.{Status}
 use Rattle.psi_cli.specs.declared.status.Status.TheVariants as status
@@ -20,7 +20,7 @@ use Rattle.psi_cli.specs.Opening.{OpensNothing}
 use Rattle.psi_cli.specs.Outcomes.{AsksText, OpensText, ParamsMake}
 use Rattle.psi_cli.specs.Reading.{AsksNothing}
 use Rattle.psi_cli.specs.Runs.{Judged, RunsPlain}
-use Rattle.psi_cli.specs.Statuses.{number_of}
+use Rattle.psi_cli.specs.Statuses.{status_number}
 use Rattle.psi_cli.specs.Worlds.{World}
 use Rattle.psi_cli.proofs.Finished.{runs_whole}
 
@@ -32,7 +32,7 @@ on_ok (Ok x) h = h
 on_ok (Err e) h = tt
 
 pub params_runs : (c : Command) (rows capacity units : ℕ) (dropped : Option ℕ) (counted : Bool) (p : Parameters) (old new : World) (made : Result Outcome Status) (s : Status) (n : ℕ)
-    → c ≡ command.Params rows capacity units dropped counted → p ≡ word_parameters rows capacity units dropped counted → n ≡ number_of s
+    → c ≡ command.Params rows capacity units dropped counted → p ≡ word_parameters rows capacity units dropped counted → n ≡ status_number s
     → IfOk made (λ o. ParamsMake p o.status o.text.items) → IfErr made (λ why. why ≡ status.NoMemory) → new.given ≡ old.given → Finishes made old.held new.held s → RunsPlain (Ok c) old new n
 params_runs c rows capacity units dropped counted p old new made s n is same e makes fault unread fin =
     let q = word_parameters rows capacity units dropped counted in
@@ -51,7 +51,7 @@ read_all (Ok o) old new ended source file = record { ended = ended; no_read_fail
 read_all (Err e) old new ended source file = tt
 
 pub ask_runs : (c : Command) (rows capacity units : ℕ) (dropped : Option ℕ) (counted : Bool) (seed : List ℕ) (session number : ℕ) (p : Parameters) (old new : World) (made : Result Outcome Status) (s : Status) (n : ℕ)
-    → c ≡ command.Ask rows capacity units dropped counted seed session number → p ≡ word_parameters rows capacity units dropped counted → n ≡ number_of s
+    → c ≡ command.Ask rows capacity units dropped counted seed session number → p ≡ word_parameters rows capacity units dropped counted → n ≡ status_number s
     → OnOk made (ArePassed p) → IfOk made (λ o. AsksText p seed session number old.given.left o.status o.text.items)
     → OnOk made (IfSome old.given.left (λ _. new.given.left ≡ Some [])) → OnOk made (new.given.reads_failed ≡ old.given.reads_failed)
     → IfErr made (AsksNothing p old.given.left new.given.left old.given.reads_failed new.given.reads_failed) → new.given.files_failed ≡ old.given.files_failed
@@ -69,7 +69,7 @@ ask_runs c rows capacity units dropped counted seed session number p old new mad
 -- ---- `open`
 
 pub open_runs : (c : Command) (rows capacity units : ℕ) (dropped : Option ℕ) (counted : Bool) (seed name text : List ℕ) (p : Parameters) (old new : World) (made : Result Outcome Status) (s : Status) (n : ℕ)
-    → c ≡ command.Open rows capacity units dropped counted seed name → text ≡ name → p ≡ word_parameters rows capacity units dropped counted → n ≡ number_of s
+    → c ≡ command.Open rows capacity units dropped counted seed name → text ≡ name → p ≡ word_parameters rows capacity units dropped counted → n ≡ status_number s
     → OnOk made (ArePassed p) → IfOk made (λ o. OpensText p seed text old.given.left old.given.files o.status o.text.items)
     → OnOk made (IfSome old.given.left (λ _. new.given.left ≡ Some [])) → OnOk made (new.given.reads_failed ≡ old.given.reads_failed) → OnOk made (new.given.files_failed ≡ old.given.files_failed)
     → IfErr made (OpensNothing p text old.given new.given)
@@ -92,7 +92,7 @@ value_never : {A : Type 0} (o : Option ℕ) (x : A) → judged_value o x ≡ Err
 value_never None x e = cc
 value_never (Some k) x e = cc
 
-row_never : (line : Line) (o : Option Row) → judged_row o line ≡ Err words.NoMemory → ⊥
+row_never : (line : Words) (o : Option CommandRow) → judged_row o line ≡ Err words.NoMemory → ⊥
 row_never line None e = cc
 row_never line (Some row) e =
     let lead = lead_of line in
@@ -102,7 +102,7 @@ row_never line (Some row) e =
       | inr few ↦ (let other = rw few at e in cc)
     ]
 
-pub words_never : (line : Line) → judged line ≡ Err words.NoMemory → ⊥
+pub words_never : (line : Words) → judged line ≡ Err words.NoMemory → ⊥
 words_never line e = row_never line (row_of line) e
 
 -- memory that runs out keeps a name
@@ -116,6 +116,6 @@ keeps_runs (Ok (command.Demo number workers)) old n keeps e = absurd keeps
 keeps_runs (Ok command.Help) old n keeps e = absurd keeps
 keeps_runs (Err fault) old n keeps e = absurd keeps
 
-pub memory_runs : (line : Line) (old : World) (n : ℕ) (fault : WordFault) → fault ≡ words.NoMemory → (judged line ≡ Err fault) ⊎ ((fault ≡ words.NoMemory) × KeepsName (judged line)) → n ≡ 7 → RunsPlain (judged line) old old n
+pub memory_runs : (line : Words) (old : World) (n : ℕ) (fault : WordFault) → fault ≡ words.NoMemory → (judged line ≡ Err fault) ⊎ ((fault ≡ words.NoMemory) × KeepsName (judged line)) → n ≡ 7 → RunsPlain (judged line) old old n
 memory_runs line old n fault is (inl never) e = absurd (words_never line (never ∙ ap Err is))
 memory_runs line old n fault is (inr keeps) e = keeps_runs (judged line) old n keeps.1 e

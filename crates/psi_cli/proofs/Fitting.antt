@@ -14,7 +14,7 @@ use Rattle.psi_frames.specs.declared.frame.Frame.{Frame}
 use Rattle.psi_frames.specs.declared.request.Request.{Request}
 use Rattle.psi_frames.specs.declared.request.Request.TheVariants as request
 use Rattle.psi_frames.specs.Frames.{IsFrame, IsSpellable, ask_kind, drop_kind, go_kind, put_kind, request_table}
-use Rattle.psi_frames.specs.Requests.{ask_code, ask_request, asks_behind, asks_of_round, call_of, counted, drop_code, drop_request, has_item, item_end, item_of, label_of, put_code, put_request, repack_code, repack_request, request_of, requests_from, unless_coded}
+use Rattle.psi_frames.specs.Requests.{ask_code, ask_request, asks_behind, asks_of_round, call_of, counted, drop_code, drop_request, has_item, item_end, item_of, put_label, put_code, put_request, repack_code, repack_request, request_of, requests_from, unless_coded}
 use Rattle.psi_frames.specs.Rounds.{request_rounds}
 use Rattle.psi_frames.specs.Served.{requests_of}
 use Rattle.psi_frames.proofs.Each.{each-append}
@@ -52,7 +52,7 @@ bytes-behind : (n : ℕ) (body : List ℕ) → AreBytes body → AreBytes (drop 
 bytes-behind n body h i = subst (λ (b : ℕ). b < 256) (sym (get_or-drop n body i 0)) (h (n + i))
 
 put-taken : (p : Parameters) (f : Frame) → AreBytes f.body → IsTaken p (put_request p f)
-put-taken p f h = unless p (put_code p f.body) f (request.Put f.session f.number (tag_of (item_of f.body)) (label_of f.body))
+put-taken p f h = unless p (put_code p f.body) f (request.Put f.session f.number (tag_of (item_of f.body)) (put_label f.body))
     (λ none. (put-fits p f.body none, tag_of-bytes (item_of f.body), bytes-behind (item_end f.body) f.body h))
 
 drop-taken : (p : Parameters) (f : Frame) → IsTaken p (drop_request f)

@@ -25,7 +25,7 @@ use Rattle.psi_receiver.specs.declared.found.Found.{Found}
 use Rattle.psi_receiver.specs.declared.placement.Placed.{Placed}
 use Rattle.psi_receiver.specs.Faults.{AreTooMany, HavePlacement}
 use Rattle.psi_receiver.specs.Openings.{AreOpened}
-use Rattle.psi_receiver.specs.Queries.{IsQueryOf, query_ciphertext, query_ciphertexts}
+use Rattle.psi_receiver.specs.Queries.{IsQueryOf, query_ciphertext, encrypted_powers}
 use Rattle.psi_receiver.proofs.Encryptions.{encrypted-ciphertext, length-query}
 use Rattle.psi_cli.specs.declared.status.Status.{Status}
 use Rattle.psi_cli.specs.declared.status.Status.TheVariants as status

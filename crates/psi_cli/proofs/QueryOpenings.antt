@@ -19,13 +19,13 @@ use Rattle.psi_frames.specs.Served.{Exchange, IsEvaluated, IsServed, Sent, body_
 use Rattle.psi_receiver.specs.declared.placement.Placed.{Placed}
 use Rattle.psi_receiver.specs.Findings.{found}
 use Rattle.psi_receiver.specs.Laws.{opened_from, reply_to}
-use Rattle.psi_receiver.specs.Placements.{placed, position_sets}
-use Rattle.psi_receiver.specs.Queries.{query_ciphertexts}
+use Rattle.psi_receiver.specs.Placements.{placed_tags, position_sets}
+use Rattle.psi_receiver.specs.Queries.{encrypted_powers}
 use Rattle.psi_receiver.proofs.Encryptions.{query-read}
 use Rattle.psi_receiver.proofs.Joined.{opened-found}
 use Rattle.psi_receiver.proofs.Members.{item-found, unfound-missing}
 use Rattle.query_pool.proofs.Telling.{replay-parameters}
-use Rattle.psi_cli.specs.QueryAnswers.{AnswersOpen, Asks, OpensToFound, TellOf, TellsOfItems, opened_by, set_at}
+use Rattle.psi_cli.specs.QueryAnswers.{AnswersOpen, AsksQuery, OpensToFound, TellOf, TellsOfItems, opened_by, set_at}
 use Rattle.psi_cli.proofs.Entries.{entries-taken}
 use Rattle.psi_cli.proofs.Fitting.{rounds-taken}
 
@@ -45,12 +45,12 @@ known p history passed begins taken k = record {
 
 -- the body of an answer to such a query is that of the set's reply
 its-body : (p : Parameters) (history : List Entry) (e : Exchange) (place : ℕ) (body seed : List ℕ) (xs : List Placed) → IsKnown p (set_at p history place) → IsEvaluated p (empty_version p) history e
-    → place_of e.reply ≡ Some place → body_of e.reply ≡ Some body → Asks p seed xs e.request → body ≡ reply_to (set_at p history place) seed xs
+    → place_of e.reply ≡ Some place → body_of e.reply ≡ Some body → AsksQuery p seed xs e.request → body ≡ reply_to (set_at p history place) seed xs
 its-body p history e place body seed xs set evaluated at tells asks =
     let v = set_at p history place in
     evaluated place body at tells
     ∙ ap (reply_body p v.rows) (asks ∙ query-read p seed xs)
-    ∙ ap (λ (q : Parameters). reply_body q v.rows (query_ciphertexts q seed xs)) (sym set.parameters)
+    ∙ ap (λ (q : Parameters). reply_body q v.rows (encrypted_powers q seed xs)) (sym set.parameters)
 
 -- and it opens so
 its-opening : (p : Parameters) (v : Version) (seed : List ℕ) (xs : List Placed) (body : List ℕ) → v.parameters ≡ p → body ≡ reply_to v seed xs → opened_by p seed xs body ≡ opened_from v seed xs
@@ -60,7 +60,7 @@ opens-one : (p : Parameters) (history : List Entry) (e : Exchange) → ArePassed
 opens-one p history e passed sets evaluated place body seed tags places at tells bytes placement asks =
     let v = set_at p history place in
     let set = sets place in
-    let xs = placed tags places in
+    let xs = placed_tags tags places in
     its-opening p v seed xs body set.parameters (its-body p history e place body seed xs set evaluated at tells asks)
     ∙ opened-found v seed tags places (subst ArePassed (sym set.parameters) passed) set.sound set.bytes bytes (subst (λ (q : Parameters). IsPlacement (position_sets q.rows tags) places) (sym set.parameters) placement)
     ∙ ap (λ (q : Parameters). found q v.rows xs) set.parameters
@@ -69,7 +69,7 @@ tells-one : (p : Parameters) (history : List Entry) (e : Exchange) → ArePassed
 tells-one p history e passed sets evaluated place body seed items places at tells placement asks i within =
     let v = set_at p history place in
     let set = sets place in
-    let xs = placed (map tag_of items) places in
+    let xs = placed_tags (map tag_of items) places in
     let passes = subst ArePassed (sym set.parameters) passed in
     let fits = subst (λ (q : Parameters). IsPlacement (position_sets q.rows (map tag_of items)) places) (sym set.parameters) placement in
     let opening = its-opening p v seed xs body set.parameters (its-body p history e place body seed xs set evaluated at tells asks) in

@@ -21,7 +21,7 @@ use Rattle.psi_cli.specs.declared.status.Status.{Status}
 use Rattle.psi_cli.specs.declared.status.Status.TheVariants as status
 use Rattle.psi_cli.specs.Demonstrations.{Demonstrates, IsDemonstration, ServesFrames, ShowsNothing, ShowsSo}
 use Rattle.psi_cli.specs.Leaving.{Finishes}
-use Rattle.psi_cli.specs.Statuses.{number_of}
+use Rattle.psi_cli.specs.Statuses.{status_number}
 use Rattle.psi_cli.specs.Worlds.{Held, IsUntouched}
 
 -- ---- what serves a script
@@ -95,8 +95,8 @@ shows_nothing number workers old new status.BadInput why none = absurd why
 shows_nothing number workers old new status.ReadFault why none = absurd why
 shows_nothing number workers old new status.WriteFault why none = absurd why
 
-pub demonstrates : (number workers : ℕ) (old new : Held) (made : Result Outcome Status) (s : Status) (n : ℕ) → n ≡ number_of s
+pub demonstrates : (number workers : ℕ) (old new : Held) (made : Result Outcome Status) (s : Status) (n : ℕ) → n ≡ status_number s
     → IfOk made (λ o. (o.status ≡ status.Done) × IsDemonstration number workers o.text.items) → IfErr made (ShowsNothing number) → Finishes made old new s → Demonstrates number workers old new n
-demonstrates number workers old new (Ok o) s n e makes why (inl w) = (status.Done, e ∙ ap number_of (w.0 ∙ makes.0), (o.text.items, makes.1, w.1))
-demonstrates number workers old new (Ok o) s n e makes why (inr w) = (status.WriteFault, e ∙ ap number_of w.0, (o.text.items, makes.1, w.1))
-demonstrates number workers old new (Err t) s n e makes why w = (t, e ∙ ap number_of w.0, shows_nothing number workers old new t why w.1)
+demonstrates number workers old new (Ok o) s n e makes why (inl w) = (status.Done, e ∙ ap status_number (w.0 ∙ makes.0), (o.text.items, makes.1, w.1))
+demonstrates number workers old new (Ok o) s n e makes why (inr w) = (status.WriteFault, e ∙ ap status_number w.0, (o.text.items, makes.1, w.1))
+demonstrates number workers old new (Err t) s n e makes why w = (t, e ∙ ap status_number w.0, shows_nothing number workers old new t why w.1)

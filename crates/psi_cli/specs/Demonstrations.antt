@@ -8,7 +8,7 @@ use Rattle.psi_demo.specs.Summaries.{AreUnplaced, ForTally}
 use Rattle.psi_demo.specs.Texts.{IsSummary}
 use Rattle.psi_cli.specs.declared.status.Status.{Status}
 use Rattle.psi_cli.specs.declared.status.Status.TheVariants as status
-use Rattle.psi_cli.specs.Statuses.{number_of}
+use Rattle.psi_cli.specs.Statuses.{status_number}
 use Rattle.psi_cli.specs.Worlds.{Held, IsCutOff, IsUntouched, IsWritten}
 
 -- The text of replies serves these frames from the empty set; it is that of one lane where there is one worker.
@@ -40,4 +40,4 @@ ShowsSo number workers old new _ = ⊥
 
 -- the same, by the number of its status
 abbrev pub Demonstrates : (number workers : ℕ) → (old new : Held) → ℕ → Type 0
-Demonstrates number workers old new n = (s : Status) × (n ≡ number_of s) × ShowsSo number workers old new s
+Demonstrates number workers old new n = (s : Status) × (n ≡ status_number s) × ShowsSo number workers old new s

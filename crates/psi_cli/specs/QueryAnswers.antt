@@ -10,19 +10,19 @@ use Rattle.psi_bundle.specs.Histories.{AreBytes, version_at}
 use Rattle.psi_bundle.specs.Versions.{Version, empty_version}
 use Rattle.query_codec.specs.Queries.{query_ciphertexts}
 use Rattle.psi_frames.specs.declared.request.Request.{Request}
-use Rattle.psi_frames.specs.Requests.{query_of as ciphertexts_asked}
+use Rattle.psi_frames.specs.Requests.{asked_ciphertexts as ciphertexts_asked}
 use Rattle.psi_frames.specs.Served.{Exchange, body_of, place_of}
 use Rattle.psi_receiver.specs.declared.found.Found.{Found}
 use Rattle.psi_receiver.specs.declared.placement.Placed.{Placed}
 use Rattle.psi_receiver.specs.Findings.{found}
 use Rattle.psi_receiver.specs.Laws.{item_at}
-use Rattle.psi_receiver.specs.Openings.{opened, reply_of}
-use Rattle.psi_receiver.specs.Placements.{placed, position_sets}
+use Rattle.psi_receiver.specs.Openings.{opened, opened_reply}
+use Rattle.psi_receiver.specs.Placements.{placed_tags, position_sets}
 use Rattle.psi_receiver.specs.Queries.{query_of}
 
 -- a request asks the query of a seed and placed tags: its ciphertexts are those that are read from that query's body
-abbrev pub Asks : Parameters → (seed : List ℕ) → List Placed → Request → Type 0
-Asks p seed xs r = ciphertexts_asked r ≡ query_ciphertexts p (query_of p seed xs)
+abbrev pub AsksQuery : Parameters → (seed : List ℕ) → List Placed → Request → Type 0
+AsksQuery p seed xs r = ciphertexts_asked r ≡ query_ciphertexts p (query_of p seed xs)
 
 -- the set at a place of a history that began with the empty set
 abbrev pub set_at : Parameters → List Entry → ℕ → Version
@@ -30,7 +30,7 @@ set_at p history place = version_at (empty_version p) history place
 
 -- what a reply body opens to, with the seed and the placed tags of its query
 abbrev pub opened_by : Parameters → (seed : List ℕ) → List Placed → (body : List ℕ) → List Found
-opened_by p seed xs body = opened (reply_of p seed body) xs
+opened_by p seed xs body = opened (opened_reply p seed body) xs
 
 -- The answer to a query of tags with a placement opens to exactly what is found in the bundles of the set at its place: the tags whose
 -- slot values are roots in one bundle, with its labels.
@@ -38,8 +38,8 @@ abbrev pub OpensToFound : Parameters → List Entry → Exchange → Type 0
 OpensToFound p history e =
     (place : ℕ) (body seed : List ℕ) (tags : List (List ℕ)) (places : List ℕ)
     → place_of e.reply ≡ Some place → body_of e.reply ≡ Some body
-    → All AreBytes tags → IsPlacement (position_sets p.rows tags) places → Asks p seed (placed tags places) e.request
-    → opened_by p seed (placed tags places) body ≡ found p (set_at p history place).rows (placed tags places)
+    → All AreBytes tags → IsPlacement (position_sets p.rows tags) places → AsksQuery p seed (placed_tags tags places) e.request
+    → opened_by p seed (placed_tags tags places) body ≡ found p (set_at p history place).rows (placed_tags tags places)
 
 -- What some found items say of item i and a set: if the set has it, it is found with its label there, and if it is found nowhere, the
 -- set does not have it.
@@ -53,8 +53,8 @@ abbrev pub TellsOfItems : Parameters → List Entry → Exchange → Type 0
 TellsOfItems p history e =
     (place : ℕ) (body seed : List ℕ) (items : List (List ℕ)) (places : List ℕ)
     → place_of e.reply ≡ Some place → body_of e.reply ≡ Some body
-    → IsPlacement (position_sets p.rows (map tag_of items)) places → Asks p seed (placed (map tag_of items) places) e.request
-    → (i : ℕ) → i < length items → TellOf (set_at p history place) items (opened_by p seed (placed (map tag_of items) places) body) i
+    → IsPlacement (position_sets p.rows (map tag_of items)) places → AsksQuery p seed (placed_tags (map tag_of items) places) e.request
+    → (i : ℕ) → i < length items → TellOf (set_at p history place) items (opened_by p seed (placed_tags (map tag_of items) places) body) i
 
 -- the answers among some exchanges do so
 pub record AnswersOpen (p : Parameters) (history : List Entry) (es : List Exchange) : Type 0 where

@@ -15,7 +15,7 @@ use Rattle.psi_cli.specs.declared.threaded.Threaded.TheVariants as threaded
 use Rattle.psi_cli.specs.Commands.{word_parameters}
 use Rattle.psi_cli.specs.Demonstrations.{Demonstrates}
 use Rattle.psi_cli.specs.Leaving.{Leaves}
-use Rattle.psi_cli.specs.Statuses.{number_of}
+use Rattle.psi_cli.specs.Statuses.{status_number}
 use Rattle.psi_cli.specs.Worlds.{Held, World, ends_of}
 
 -- what words give: a command, or why there is none
@@ -68,7 +68,7 @@ pub record ShowsDemo (number workers : ℕ) (old new : World) (n : ℕ) : Type 0
 
 -- a run that reads its input whole
 abbrev pub RunsWhole : Command → World → World → ℕ → Type 0
-RunsWhole c old new n = (s : Status) × (n ≡ number_of s) × Leaves c old new s
+RunsWhole c old new n = (s : Status) × (n ≡ status_number s) × Leaves c old new s
 
 -- A run of one thread, which knows neither `serve` nor `demo`.
 abbrev pub RunsPlain : Judged → World → World → ℕ → Type 0
@@ -99,11 +99,11 @@ GivesNone (Ok c) = ⊥
 -- ---- what words ask of several threads
 
 -- the words ask for it
-abbrev pub Asks : Judged → Threaded → Type 0
-Asks (Ok (command.Serve rows capacity units drop counted workers builders)) (threaded.Serve params shape) =
+abbrev pub AsksThreads : Judged → Threaded → Type 0
+AsksThreads (Ok (command.Serve rows capacity units drop counted workers builders)) (threaded.Serve params shape) =
     (parameters_of params ≡ word_parameters rows capacity units drop counted) × (shape.workers ≡ workers) × (shape.builders ≡ builders)
-Asks (Ok (command.Demo number workers)) (threaded.Demo asked own) = (asked ≡ number) × (own ≡ workers)
-Asks _ asked = ⊥
+AsksThreads (Ok (command.Demo number workers)) (threaded.Demo asked own) = (asked ≡ number) × (own ≡ workers)
+AsksThreads _ asked = ⊥
 
 -- they ask for something else
 abbrev pub AsksNoThreads : Judged → Type 0

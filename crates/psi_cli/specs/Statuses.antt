@@ -4,19 +4,19 @@ use Rattle.psi_cli.specs.declared.status.Status.{Status}
 use Rattle.psi_cli.specs.declared.status.Status.TheVariants as status
 
 -- the number of a status
-abbrev pub number_of : Status → ℕ
-number_of status.Done = 0
-number_of status.Words = 2
-number_of status.Parameters = 3
-number_of status.BadInput = 4
-number_of status.ReadFault = 5
-number_of status.WriteFault = 6
-number_of status.NoMemory = 7
-number_of status.Crowded = 8
+abbrev pub status_number : Status → ℕ
+status_number status.Done = 0
+status_number status.Words = 2
+status_number status.Parameters = 3
+status_number status.BadInput = 4
+status_number status.ReadFault = 5
+status_number status.WriteFault = 6
+status_number status.NoMemory = 7
+status_number status.Crowded = 8
 
 -- the statuses that there are
 abbrev pub IsStatus : ℕ → Type 0
-IsStatus n = (s : Status) × (n ≡ number_of s)
+IsStatus n = (s : Status) × (n ≡ status_number s)
 
 -- a bad input, items without a placement, or refused parameters; or else a fault, or memory ran out
 abbrev pub IsBadOrFails : ℕ → Type 0

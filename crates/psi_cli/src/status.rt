@@ -1,6 +1,6 @@
 //! The statuses of the program.
 ghost use Rattle.std.specs.Prelude.{◌≡◌};
-ghost use Rattle.psi_cli.specs.Statuses.{number_of};
+ghost use Rattle.psi_cli.specs.Statuses.{status_number};
 ghost use Rattle.psi_cli.specs.declared.status.Status.TheVariants.{NoMemory};
 
 use std::alloc::AllocError;
@@ -29,7 +29,7 @@ pub enum Status {
 impl Status {
     /// The number that the program ends with.
     pub fn number(self) -> u8
-        ensures { result ≡ number_of self }
+        ensures { result ≡ status_number self }
     {
         match self {
             Status::Done => 0,

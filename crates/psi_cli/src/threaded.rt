@@ -1,6 +1,6 @@
 //! What words ask of several threads.
 ghost use Rattle.std.specs.Prelude.{IfSome, IsNone};
-ghost use Rattle.psi_cli.specs.Runs.{Asks, AsksNoThreads, IsAllowed, given_by};
+ghost use Rattle.psi_cli.specs.Runs.{AsksThreads, AsksNoThreads, IsAllowed, given_by};
 
 use crate::params::word_parameters;
 use noise_ledger::Params;
@@ -29,7 +29,7 @@ pub enum Threaded {
 
 /// What the words ask of several threads, if they ask for `serve` or `demo`. There are 1 to 8 workers and at most 4 builders.
 pub fn threaded_by(alloc: Global, words: &[String]) -> Option<Threaded>
-    ensures asked { IfSome result (Asks (given_by words.now)) }
+    ensures asked { IfSome result (AsksThreads (given_by words.now)) }
     ensures allowed { IfSome result IsAllowed }
     ensures other { IsNone result → AsksNoThreads (given_by words.now) }
 {

@@ -11,7 +11,7 @@ use Rattle.noise_ledger.specs.Ledgers.{carry_of, noise_of, used_of}
 use Rattle.noise_ledger.specs.Verdicts.{ArePassed}
 use Rattle.psi_receiver.proofs.Steps.{range-more}
 use Rattle.psi_demo.specs.declared.fault.SumFault.{SumFault}
-use Rattle.psi_demo.specs.Items.{asked_tags, demo_parameters, item_of, item_tag, label_of, run}
+use Rattle.psi_demo.specs.Items.{asked_tags, demo_parameters, demo_item, item_tag, demo_label, run}
 
 -- the parameters pass
 pub demo-passed : ArePassed demo_parameters
@@ -43,13 +43,13 @@ length-asked number =
       length-map-range_with_len (λ (k : ℕ). item_tag number (100000 + 1 * k)) 0 22,
     )
 
-pub length-item : (number i : ℕ) → length (item_of number i) ≡ 12
-unfolding item_of
+pub length-item : (number i : ℕ) → length (demo_item number i) ≡ 12
+unfolding demo_item
 length-item number i = refl
 
-pub length-label : (number i : ℕ) → length (label_of number i) ≤ 10
-unfolding label_of
-length-label number i = omega (arith, length-take 10 (sha256 (item_of number i ++ 76 ∷ [])))
+pub length-label : (number i : ℕ) → length (demo_label number i) ≤ 10
+unfolding demo_label
+length-label number i = omega (arith, length-take 10 (sha256 (demo_item number i ++ 76 ∷ [])))
 
 -- one more that is counted, or is not
 pub counted-more : (p : ℕ → Bool) (k count next : ℕ) (b : Bool) → b ≡ p k → count ≡ count_by p (range_with_len 0 k) → next ≡ count + cond b 1 0 → next ≡ count_by p (range_with_len 0 (k + 1))

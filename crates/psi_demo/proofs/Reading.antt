@@ -8,7 +8,7 @@ use Rattle.std.proofs.lemmas.List.Elements.{All-append, All-cons, All-head, All-
 use Rattle.psi_frames.specs.declared.frame.Frame.{Frame}
 use Rattle.psi_frames.specs.declared.reply.Reply.{Reply}
 use Rattle.psi_frames.specs.Feeds.{EndsIn, Feeding, HasFed, IsCut, end_fault, table_of}
-use Rattle.psi_frames.specs.Frames.{Fault, Short, IsFrame, IsSpellable, answer_fits, frame_bytes, frames_bytes, front_fault, reply_bytes, reply_content, reply_kind, reply_table, spelled}
+use Rattle.psi_frames.specs.Frames.{Fault, Short, IsFrame, IsSpellable, answer_fits, frame_bytes, frames_bytes, front_fault, reply_frame_bytes, reply_content, reply_kind, reply_table, spelled}
 use Rattle.psi_frames.specs.ReplyFrames.{Tells, is_reply_row, told_reply}
 use Rattle.psi_frames.specs.Served.{Sent, text_of}
 use Rattle.psi_frames.proofs.Bytes.{byte-rest}
@@ -38,13 +38,13 @@ read-first bytes feed fed replies =
     record { before = []; fit = All-nil (λ (s : Sent). answer_fits s.reply); told = refl; reached = refl; tail = cut.tail; whole = cut.whole; each = cut.each; ended = cut.ended }
 
 -- a reply in a frame that tells it
-sent_in-bytes : (f : Frame) (r : Reply) → Tells f.kind f.body r → reply_bytes f.session f.number r ≡ frame_bytes f
+sent_in-bytes : (f : Frame) (r : Reply) → Tells f.kind f.body r → reply_frame_bytes f.session f.number r ≡ frame_bytes f
 sent_in-bytes f r tells = λ i. spelled (tells.same_kind i) f.session f.number (tells.same_body i)
 
 text-more : (before : List Sent) (f : Frame) (r : Reply) → Tells f.kind f.body r → text_of (before ++ record { session = f.session; number = f.number; reply = r } ∷ []) ≡ text_of before ++ frame_bytes f
 text-more before f r tells =
-    flat_map-append (λ (s : Sent). reply_bytes s.session s.number s.reply) before (record { session = f.session; number = f.number; reply = r } ∷ [])
-    ∙ ap (λ (t : List ℕ). text_of before ++ t) (append-nil (reply_bytes f.session f.number r) ∙ sent_in-bytes f r tells)
+    flat_map-append (λ (s : Sent). reply_frame_bytes s.session s.number s.reply) before (record { session = f.session; number = f.number; reply = r } ∷ [])
+    ∙ ap (λ (t : List ℕ). text_of before ++ t) (append-nil (reply_frame_bytes f.session f.number r) ∙ sent_in-bytes f r tells)
 
 -- one frame more was read
 pub read-more : (bytes : List ℕ) (old new : Feeding) (f : Frame) (r : Reply) (replies now : List Reply) (offset size : ℕ) → IsRead bytes old replies offset → old ≡ record new { ready = f ∷ new.ready }

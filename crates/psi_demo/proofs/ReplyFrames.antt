@@ -6,7 +6,7 @@ use Rattle.byteorder.specs.Endian.{big_bytes}
 use Rattle.psi_frames.specs.declared.frame.Frame.{Frame}
 use Rattle.psi_frames.specs.declared.reply.Reply.{Reply}
 use Rattle.psi_frames.specs.declared.reply.Reply.TheVariants as reply
-use Rattle.psi_frames.specs.Frames.{IsFrame, answer_fits, frame_bytes, head_bytes, is_kind_between, reply_bytes, reply_content, reply_kind, reply_table, spelled}
+use Rattle.psi_frames.specs.Frames.{IsFrame, answer_fits, frame_bytes, head_bytes, is_kind_between, reply_frame_bytes, reply_content, reply_kind, reply_table, spelled}
 use Rattle.psi_frames.specs.ReplyFrames.{is_reply_row}
 use Rattle.psi_frames.specs.Served.{Sent}
 use Rattle.psi_frames.proofs.Bytes.{byte-front, byte-rest}
@@ -65,7 +65,7 @@ low-4 n =
 pub sent_frame : Sent → Frame
 sent_frame s = record { kind = reply_kind s.reply; session = s.session % 65536; number = s.number % 4294967296; body = reply_content s.reply }
 
-pub sent-bytes : (s : Sent) → frame_bytes (sent_frame s) ≡ reply_bytes s.session s.number s.reply
+pub sent-bytes : (s : Sent) → frame_bytes (sent_frame s) ≡ reply_frame_bytes s.session s.number s.reply
 unfolding sent_frame spelled
 sent-bytes s =
     let word = big_bytes 4 (head_bytes + length (reply_content s.reply)) ++ big_bytes 1 (reply_kind s.reply) in
@@ -80,15 +80,15 @@ unfolding sent_frame
 sent-body s = refl
 
 -- the body of a reply that begins bytes is bytes
-content-bytes : (s : Sent) (more bytes : List ℕ) → bytes ≡ reply_bytes s.session s.number s.reply ++ more → ((i : ℕ) → slice_index bytes i < 256) → (i : ℕ) → slice_index (reply_content s.reply) i < 256
+content-bytes : (s : Sent) (more bytes : List ℕ) → bytes ≡ reply_frame_bytes s.session s.number s.reply ++ more → ((i : ℕ) → slice_index bytes i < 256) → (i : ℕ) → slice_index (reply_content s.reply) i < 256
 unfolding spelled
 content-bytes s more bytes is each =
-    let whole = reply_bytes s.session s.number s.reply in
+    let whole = reply_frame_bytes s.session s.number s.reply in
     let head = big_bytes 4 (head_bytes + length (reply_content s.reply)) ++ big_bytes 1 (reply_kind s.reply) ++ big_bytes 2 s.session ++ big_bytes 4 s.number in
     byte-rest whole head (reply_content s.reply) refl (byte-front bytes whole more is each)
 
 -- it is one of the table
-pub sent-is : (s : Sent) (more bytes : List ℕ) → answer_fits s.reply → bytes ≡ reply_bytes s.session s.number s.reply ++ more → ((i : ℕ) → slice_index bytes i < 256) → IsFrame reply_table (sent_frame s)
+pub sent-is : (s : Sent) (more bytes : List ℕ) → answer_fits s.reply → bytes ≡ reply_frame_bytes s.session s.number s.reply ++ more → ((i : ℕ) → slice_index bytes i < 256) → IsFrame reply_table (sent_frame s)
 unfolding sent_frame
 sent-is s more bytes fits is each =
     let between = and_parts (nat_le 129 (reply_kind s.reply)) (nat_le (reply_kind s.reply) 137) (kind-between s.reply) in
@@ -113,7 +113,7 @@ pub record AreSame (s t : Sent) : Type 0 where
   pub content : reply_content s.reply ≡ reply_content t.reply
 
 -- two replies that begin the same bytes are told in one way, and the same stands behind them
-pub one-reply : (s t : Sent) (x y bytes : List ℕ) → answer_fits s.reply → answer_fits t.reply → bytes ≡ reply_bytes s.session s.number s.reply ++ x → bytes ≡ reply_bytes t.session t.number t.reply ++ y
+pub one-reply : (s t : Sent) (x y bytes : List ℕ) → answer_fits s.reply → answer_fits t.reply → bytes ≡ reply_frame_bytes s.session s.number s.reply ++ x → bytes ≡ reply_frame_bytes t.session t.number t.reply ++ y
     → ((i : ℕ) → slice_index bytes i < 256) → AreSame s t × (x ≡ y)
 one-reply s t x y bytes fits_s fits_t is_s is_t each =
     let whole : frame_bytes (sent_frame s) ++ x ≡ frame_bytes (sent_frame t) ++ y = ap (λ (b : List ℕ). b ++ x) (sent-bytes s) ∙ sym is_s ∙ is_t ∙ ap (λ (b : List ℕ). b ++ y) (sym (sent-bytes t)) in

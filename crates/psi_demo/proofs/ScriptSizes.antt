@@ -8,7 +8,7 @@ use Rattle.psi_frames.specs.declared.frame.Frame.{Frame}
 use Rattle.psi_frames.specs.declared.request.Request.{Request}
 use Rattle.psi_frames.specs.declared.request.Request.TheVariants as request
 use Rattle.psi_frames.specs.Frames.{ask_kind, drop_kind, go_kind, put_kind}
-use Rattle.psi_frames.specs.Requests.{ask_request, asks_behind, count_asks, counted, drop_code, drop_request, is_ask, item_of, label_of, put_code, put_request, repack_code, repack_request, request_of, requests_from}
+use Rattle.psi_frames.specs.Requests.{ask_request, asks_behind, count_asks, counted, drop_code, drop_request, is_ask, item_of, put_label, put_code, put_request, repack_code, repack_request, request_of, requests_from}
 use Rattle.psi_frames.specs.Rounds.{request_rounds}
 use Rattle.psi_frames.specs.Served.{requests_of}
 use Rattle.psi_frames.proofs.RoundRequests.{no_ask-unless}
@@ -38,7 +38,7 @@ ask-kind : (p : Parameters) (f : Frame) → is_ask (request_of p f) ≡ true →
 unfolding request_of
 ask-kind p f e = by_kind (nat_eq f.kind put_kind) (nat_eq f.kind drop_kind) (nat_eq f.kind ask_kind) e where
   by_kind : (put drop ask : Bool) → is_ask (if put then put_request p f else (if drop then drop_request f else (if ask then ask_request p f else repack_request p f))) ≡ true → ask ≡ true
-  by_kind true drop ask e = let no = no_ask-unless (put_code p f.body) f (request.Put f.session f.number (tag_of (item_of f.body)) (label_of f.body)) refl in absurd (cc)
+  by_kind true drop ask e = let no = no_ask-unless (put_code p f.body) f (request.Put f.session f.number (tag_of (item_of f.body)) (put_label f.body)) refl in absurd (cc)
   by_kind false true ask e = let no = no_ask-unless (drop_code f.body) f (request.Drop f.session f.number (tag_of (item_of f.body))) refl in absurd (cc)
   by_kind false false true e = refl
   by_kind false false false e = let no = no_ask-unless (repack_code p f.body) f (request.Repack f.session f.number (slice_index f.body 0)) refl in absurd (cc)

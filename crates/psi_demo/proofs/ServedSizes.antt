@@ -22,8 +22,8 @@ use Rattle.psi_frames.specs.declared.reply.Reply.{Reply}
 use Rattle.psi_frames.specs.declared.reply.Reply.TheVariants as reply
 use Rattle.psi_frames.specs.declared.request.Request.{Request}
 use Rattle.psi_frames.specs.declared.request.Request.TheVariants as request
-use Rattle.psi_frames.specs.Frames.{reply_bytes as frame_of_reply, reply_content}
-use Rattle.psi_frames.specs.Requests.{call_of, code_of, count_asks, is_ask, query_of}
+use Rattle.psi_frames.specs.Frames.{reply_frame_bytes as frame_of_reply, reply_content}
+use Rattle.psi_frames.specs.Requests.{call_of, code_of, count_asks, is_ask, asked_ciphertexts}
 use Rattle.psi_frames.specs.Served.{Exchange, IsEvaluated, IsRecorded, Sent, address_of_reply, address_of_request, answer_of, body_of, exchanges, from_or_zero, numbered, place_of, requests_of, text_of}
 use Rattle.psi_frames.proofs.FrameLaws.{length-frame}
 use Rattle.psi_frames.proofs.Following.{seconds-numbered}
@@ -139,8 +139,8 @@ short-answer history e place body sound legal is none recorded evaluated =
     let asks : is_ask e.request ≡ true = asked-by (empty_version demo_parameters) history place (from_or_zero e.reply) e.request legal none there in
     let v = version_at (empty_version demo_parameters) history place in
     let set = sound place in
-    let own : body ≡ reply_body demo_parameters v.rows (query_of e.request) = evaluated place body at tells in
-    let size = body-size v (query_of e.request) set.parameters set.sound in
+    let own : body ≡ reply_body demo_parameters v.rows (asked_ciphertexts e.request) = evaluated place body at tells in
+    let size = body-size v (asked_ciphertexts e.request) set.parameters set.sound in
     let content : length (reply_content e.reply) ≡ 8 + length body = ap (λ (r : Reply). length (reply_content r)) is ∙ length-append (big_bytes 8 place) body in
     rw asks (omega (arith, content, ap length own, size))
 

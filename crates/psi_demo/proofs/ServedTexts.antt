@@ -14,8 +14,8 @@ use Rattle.query_codec.proofs.ReplyBodies.{IsReply-written, no_fault-IsReply}
 use Rattle.psi_frames.specs.declared.reply.Reply.{Reply}
 use Rattle.psi_frames.specs.declared.reply.Reply.TheVariants as reply
 use Rattle.psi_frames.specs.declared.request.Request.{Request}
-use Rattle.psi_frames.specs.Frames.{answer_fits, reply_bytes}
-use Rattle.psi_frames.specs.Requests.{query_of}
+use Rattle.psi_frames.specs.Frames.{answer_fits, reply_frame_bytes}
+use Rattle.psi_frames.specs.Requests.{asked_ciphertexts}
 use Rattle.psi_frames.specs.Served.{Exchange, IsEvaluated, Sent, address_of_reply, address_of_request, body_of, exchanges, numbered, place_of, requests_of, text_of}
 use Rattle.psi_frames.proofs.FrameLaws.{length-frame}
 use Rattle.psi_frames.proofs.Following.{seconds-numbered}
@@ -37,7 +37,7 @@ short-fit (s ∷ ss) short =
     let size = length-frame (sent_frame s) in
     let body = ap length (sent-body s) in
     let same = ap length (sent-bytes s) in
-    let whole = length-append (reply_bytes s.session s.number s.reply) (text_of ss) in
+    let whole = length-append (reply_frame_bytes s.session s.number s.reply) (text_of ss) in
     All-cons (λ (t : Sent). answer_fits t.reply) s ss (omega (arith, short, size, body, same, whole)) (short-fit ss (omega (arith, short, whole)))
 
 -- ---- what a sound set answers
@@ -71,7 +71,7 @@ evaluated-body history e sound evaluated body tells =
     let place = body-placed e.reply body tells in
     let v = version_at (empty_version demo_parameters) history place.0 in
     let set = sound place.0 in
-    subst (IsReply demo_parameters) (sym (evaluated place.0 body place.1 tells)) (is-reply v (query_of e.request) set.parameters set.sound)
+    subst (IsReply demo_parameters) (sym (evaluated place.0 body place.1 tells)) (is-reply v (asked_ciphertexts e.request) set.parameters set.sound)
 
 -- replies to requests, one by one
 bodies-each : (history : List Entry) (ns : List (ℕ × Request)) (sents : List Sent) → length ns ≡ length sents → ((place : ℕ) → IsSoundAt history place)

@@ -5,7 +5,7 @@ use Rattle.std.proofs.lemmas.List.Elements.{All-head, All-tail}
 use Rattle.std.proofs.lemmas.List.Sums.{sum_by-cons}
 use Rattle.psi_frames.specs.declared.reply.Reply.{Reply}
 use Rattle.psi_frames.specs.declared.reply.Reply.TheVariants as reply
-use Rattle.psi_frames.specs.Frames.{answer_fits, reply_bytes, reply_content, reply_kind}
+use Rattle.psi_frames.specs.Frames.{answer_fits, reply_frame_bytes, reply_content, reply_kind}
 use Rattle.psi_frames.specs.Served.{Sent, body_of, text_of}
 use Rattle.psi_frames.proofs.Bytes.{byte-rest}
 use Rattle.psi_frames.proofs.FrameLaws.{length-frame}
@@ -36,15 +36,15 @@ AreSameAll [] (t ∷ ts) = ⊥
 AreSameAll (s ∷ ss) [] = ⊥
 AreSameAll (s ∷ ss) (t ∷ ts) = AreSame s t × AreSameAll ss ts
 
-some-bytes : (s : Sent) (x : List ℕ) → 0 < length (reply_bytes s.session s.number s.reply ++ x)
+some-bytes : (s : Sent) (x : List ℕ) → 0 < length (reply_frame_bytes s.session s.number s.reply ++ x)
 some-bytes s x =
     let size = length-frame (sent_frame s) in
     let same = ap length (sent-bytes s) in
-    omega (arith, size, same, length-append (reply_bytes s.session s.number s.reply) x)
+    omega (arith, size, same, length-append (reply_frame_bytes s.session s.number s.reply) x)
 
 -- a text's first reply, and the rest
-first-sent : (s : Sent) (ss : List Sent) (bytes x : List ℕ) → bytes ≡ text_of (s ∷ ss) ++ x → bytes ≡ reply_bytes s.session s.number s.reply ++ (text_of ss ++ x)
-first-sent s ss bytes x is = is ∙ append_assoc (reply_bytes s.session s.number s.reply) (text_of ss) x
+first-sent : (s : Sent) (ss : List Sent) (bytes x : List ℕ) → bytes ≡ text_of (s ∷ ss) ++ x → bytes ≡ reply_frame_bytes s.session s.number s.reply ++ (text_of ss ++ x)
+first-sent s ss bytes x is = is ∙ append_assoc (reply_frame_bytes s.session s.number s.reply) (text_of ss) x
 
 -- bytes are the text of replies in one way
 same-sents : (a b : List Sent) (bytes : List ℕ) → ((i : ℕ) → slice_index bytes i < 256) → bytes ≡ text_of a → bytes ≡ text_of b → AreFit a → AreFit b → AreSameAll a b
@@ -55,7 +55,7 @@ same-sents (s ∷ ss) [] bytes each is_a is_b fit_a fit_b = let some = some-byte
 same-sents (s ∷ ss) (t ∷ ts) bytes each is_a is_b fit_a fit_b =
     let fits = λ (u : Sent). answer_fits u.reply in
     let one = one-reply s t (text_of ss) (text_of ts) bytes (All-head fits s ss fit_a) (All-head fits t ts fit_b) is_a is_b each in
-    (one.0, same-sents ss ts (text_of ss) (byte-rest bytes (reply_bytes s.session s.number s.reply) (text_of ss) is_a each) refl one.1 (All-tail fits s ss fit_a) (All-tail fits t ts fit_b))
+    (one.0, same-sents ss ts (text_of ss) (byte-rest bytes (reply_frame_bytes s.session s.number s.reply) (text_of ss) is_a each) refl one.1 (All-tail fits s ss fit_a) (All-tail fits t ts fit_b))
 
 same-length : (a b : List Sent) → AreSameAll a b → length (replies_of a) ≡ length (replies_of b)
 unfolding AreSameAll
@@ -131,7 +131,7 @@ torn-never_by (s ∷ ss) (t ∷ ts) rest bytes each is whole fit fit_all some no
     let fits = λ (u : Sent). answer_fits u.reply in
     let first = first-sent s ss bytes rest is in
     let one = one-reply s t (text_of ss ++ rest) (text_of ts) bytes (All-head fits s ss fit) (All-head fits t ts fit_all) first whole each in
-    torn-never_by ss ts rest (text_of ss ++ rest) (byte-rest bytes (reply_bytes s.session s.number s.reply) (text_of ss ++ rest) first each) refl one.1 (All-tail fits s ss fit) (All-tail fits t ts fit_all) some none
+    torn-never_by ss ts rest (text_of ss ++ rest) (byte-rest bytes (reply_frame_bytes s.session s.number s.reply) (text_of ss ++ rest) first each) refl one.1 (All-tail fits s ss fit) (All-tail fits t ts fit_all) some none
 
 pub torn-never : (before : List Sent) (rest bytes : List ℕ) → ((i : ℕ) → slice_index bytes i < 256) → bytes ≡ text_of before ++ rest → AreFit before → 0 < length rest → BeginsNoReply rest → (sents : List Sent) → AreSent bytes sents → ⊥
 torn-never before rest bytes each is fit some none sents sent = torn-never_by before sents rest bytes each is sent.text fit sent.fit some none

@@ -2,7 +2,7 @@
 use Rattle.std.specs.Prelude.{◌≡◌, ℕ, ◌<◌, List, ◌++◌, length, map, ⊤}
 use Rattle.std.specs.List.{All}
 use Rattle.psi_frames.specs.declared.reply.Reply.{Reply}
-use Rattle.psi_frames.specs.Frames.{answer_fits, reply_bytes}
+use Rattle.psi_frames.specs.Frames.{answer_fits, reply_frame_bytes}
 use Rattle.psi_frames.specs.Served.{Sent, text_of}
 use Rattle.psi_demo.specs.declared.fault.SumFault.{SumFault}
 use Rattle.psi_demo.specs.declared.fault.SumFault.TheVariants as sum
@@ -18,7 +18,7 @@ pub record AreSent (bytes : List ℕ) (sents : List Sent) : Type 0 where
 
 -- no frame of a reply begins the bytes
 abbrev pub BeginsNoReply : List ℕ → Type 0
-BeginsNoReply bytes = (s : Sent) (more : List ℕ) → answer_fits s.reply → bytes ≡ reply_bytes s.session s.number s.reply ++ more → ⊥
+BeginsNoReply bytes = (s : Sent) (more : List ℕ) → answer_fits s.reply → bytes ≡ reply_frame_bytes s.session s.number s.reply ++ more → ⊥
 
 -- The bytes are the frames of replies up to an offset, and there no such frame begins; so they are no list of them.
 pub record IsTorn (bytes : List ℕ) (offset : ℕ) : Type 0 where

@@ -3,7 +3,7 @@ use Rattle.std.specs.Prelude.{◌≡◌, ◌≤◌, ℕ, ◌+◌, ◌%◌, List,
 use Rattle.psi_frames.specs.declared.frame.Frame.{Frame}
 use Rattle.psi_frames.specs.Frames.{AreWholeFrames, frames_bytes, most_bytes, request_table, put_kind, drop_kind, ask_kind, repack_kind, go_kind}
 use Rattle.psi_receiver.specs.Queries.{IsQueryOf}
-use Rattle.psi_demo.specs.Items.{asked_tags, demo_parameters, item_of, label_of, run, seed_of}
+use Rattle.psi_demo.specs.Items.{asked_tags, demo_parameters, demo_item, demo_label, run, demo_seed}
 
 -- A request that has no number yet.
 pub record Unnumbered : Type 0 where
@@ -30,11 +30,11 @@ session_of_item i = 1 + i % 4
 
 -- an item's Put: its length, itself, and its label
 abbrev pub put : (number i : ℕ) → Unnumbered
-put number i = record { kind = put_kind; session = session_of_item i; body = 12 ∷ item_of number i ++ label_of number i }
+put number i = record { kind = put_kind; session = session_of_item i; body = 12 ∷ demo_item number i ++ demo_label number i }
 
 -- its Drop
 abbrev pub drop : (number i : ℕ) → Unnumbered
-drop number i = record { kind = drop_kind; session = session_of_item i; body = 12 ∷ item_of number i }
+drop number i = record { kind = drop_kind; session = session_of_item i; body = 12 ∷ demo_item number i }
 
 -- an Ask with a query
 abbrev pub asking : (session : ℕ) → (query : List ℕ) → Unnumbered
@@ -67,7 +67,7 @@ script_frames number first second third = rounds_frames (first_round number) (se
 
 -- a body is the query of an ask for tags
 abbrev pub IsAsked : (number ask : ℕ) → (tags : List (List ℕ)) → (body : List ℕ) → Type 0
-IsAsked number ask tags body = IsQueryOf demo_parameters (seed_of number ask) tags body
+IsAsked number ask tags body = IsQueryOf demo_parameters (demo_seed number ask) tags body
 
 -- The frames are the script of the number; so the asked items have a placement.
 pub record IsScript (number : ℕ) (frames : List Frame) : Type 0 where

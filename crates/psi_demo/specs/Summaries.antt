@@ -12,7 +12,7 @@ use Rattle.psi_frames.specs.Served.{Sent, body_of}
 use Rattle.psi_receiver.specs.declared.found.Found.{Found}
 use Rattle.psi_receiver.specs.Openings.{AreOpened}
 use Rattle.psi_receiver.specs.Placements.{position_sets}
-use Rattle.psi_demo.specs.Items.{asked_tags, demo_parameters, label_of, seed_of, stable_at, stable_items}
+use Rattle.psi_demo.specs.Items.{asked_tags, demo_parameters, demo_label, demo_seed, stable_at, stable_items}
 use Rattle.psi_demo.specs.Replies.{AreSent, replies_of}
 
 -- the answers that are opened, at most
@@ -52,7 +52,7 @@ pub record ForTally (bytes : List ℕ) (P : Tally → Type 0) : Type 0 where
 
 -- stable item k is found with its own label
 abbrev pub is_own : (number k : ℕ) → Found → Bool
-is_own number k f = nat_eq f.item k && pointwise nat_eq f.label (label_of number (stable_at k))
+is_own number k f = nat_eq f.item k && pointwise nat_eq f.label (demo_label number (stable_at k))
 
 -- how many stable items are found with their own labels
 unfoldable pub stable_found : (number : ℕ) → List Found → ℕ
@@ -61,7 +61,7 @@ stable_found number found = count_by (λ k. list_any (is_own number k) found) (r
 -- What an answer's body opens to for tags has this number of stable items.
 pub record HasStable (number ask : ℕ) (tags : List (List ℕ)) (body : List ℕ) (n : ℕ) : Type 0 where
   pub found : List Found
-  pub opened : AreOpened demo_parameters (seed_of number ask) tags body found
+  pub opened : AreOpened demo_parameters (demo_seed number ask) tags body found
   pub reply : IsReply demo_parameters body
   pub counted : n ≡ stable_found number found
 

@@ -1,7 +1,7 @@
 //! The items of a number, their labels, and the seeds of the asks.
 ghost use Rattle.std.specs.Prelude.{◌≡◌, ◌≤◌, ◌+◌, ◌*◌, ◌<◌, ◌^◌, ◌++◌, ◌∷◌, [], IfOk, OnOk};
 ghost use Rattle.noise_ledger.specs.Verdicts.{ArePassed, parameters_of};
-ghost use Rattle.psi_demo.specs.Items.{asked_tags, demo_parameters, item_of, item_tag, label_of, run, seed_of};
+ghost use Rattle.psi_demo.specs.Items.{asked_tags, demo_parameters, demo_item, item_tag, demo_label, run, demo_seed};
 
 use item_slots::{Tag, tag_of};
 use noise_ledger::Params;
@@ -33,7 +33,7 @@ pub fn demo_params() -> Params
 
 /// Item `i` of a number: the number in 8 bytes and `i` in 4, the highest first.
 pub fn item(number: u64, i: u32) -> [u8; 12]
-    ensures { result ≡ item_of number i }
+    ensures { result ≡ demo_item number i }
 {
     let mut bytes = [0; 12];
     bytes[..8].copy_from_slice(&number.to_be_bytes());
@@ -43,7 +43,7 @@ pub fn item(number: u64, i: u32) -> [u8; 12]
 
 /// The label of item `i`: the first ten bytes of the SHA-256 of the item and the byte 76.
 pub fn label(number: u64, i: u32) -> [u8; 10]
-    ensures { result ≡ label_of number i }
+    ensures { result ≡ demo_label number i }
 {
     let mut bytes = [LABEL; 13];
     bytes[..12].copy_from_slice(&item(number, i));
@@ -55,7 +55,7 @@ pub fn label(number: u64, i: u32) -> [u8; 10]
 
 /// The seed of an ask: the SHA-256 of the number in 8 bytes and the ask's number.
 pub fn seed(number: u64, ask: u8) -> [u8; 32]
-    ensures { result ≡ seed_of number ask }
+    ensures { result ≡ demo_seed number ask }
 {
     let mut bytes = [ask; 9];
     bytes[..8].copy_from_slice(&number.to_be_bytes());

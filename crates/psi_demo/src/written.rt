@@ -1,7 +1,7 @@
 //! A script, as far as it is written.
 ghost use Rattle.std.specs.Prelude.{◌≡◌, ◌≤◌, ◌<◌, ◌+◌, ◌*◌, ◌^◌, [], ◌∷◌, ◌++◌, length, IfOk, OnOk};
 ghost use Rattle.psi_frames.specs.Frames.{frame_bytes};
-ghost use Rattle.psi_demo.specs.Items.{item_of, label_of, run};
+ghost use Rattle.psi_demo.specs.Items.{demo_item, demo_label, run};
 ghost use Rattle.psi_demo.specs.Scripts.{asking, drop, go_frame, packing, put, session_of_item};
 ghost use Rattle.psi_demo.specs.Writing.{Writes};
 
@@ -167,7 +167,7 @@ fn session_of_item(i: u32) -> u16
 
 // The body of the Put of an item: its length, itself, and its label.
 fn put_body(alloc: Global, number: u64, i: u32) -> Result<Vec<u8>, AllocError>
-    ensures { IfOk result (λ body. body.items ≡ 12 ∷ item_of number i ++ label_of number i) }
+    ensures { IfOk result (λ body. body.items ≡ 12 ∷ demo_item number i ++ demo_label number i) }
 {
     let mut body = drop_body(alloc, number, i)?;
     body.extend_from_slice(&label(number, i))?;
@@ -176,7 +176,7 @@ fn put_body(alloc: Global, number: u64, i: u32) -> Result<Vec<u8>, AllocError>
 
 // The body of its Drop: its length, and itself.
 fn drop_body(alloc: Global, number: u64, i: u32) -> Result<Vec<u8>, AllocError>
-    ensures { IfOk result (λ body. body.items ≡ 12 ∷ item_of number i) }
+    ensures { IfOk result (λ body. body.items ≡ 12 ∷ demo_item number i) }
 {
     let mut body = Vec::from_slice(alloc, &[ITEM_BYTES])?;
     body.extend_from_slice(&item(number, i))?;

@@ -4,7 +4,7 @@ use Rattle.std.proofs.lemmas.Bool.{cases_lt, le-leb, lt-leb}
 use Rattle.psi_frames.specs.declared.frame.Frame.{Frame}
 use Rattle.psi_frames.specs.Frames.{frames_bytes}
 use Rattle.psi_frames.specs.Rounds.{is_full}
-use Rattle.psi_frames.specs.RoundSizes.{Counts, Sizes, most_counted}
+use Rattle.psi_frames.specs.RoundSizes.{IsSizeOf, Sizes, most_counted}
 
 -- a test of a number that stands still far above it
 nat_le-counted : (k n : ℕ) → k ≤ most_counted → nat_le k (min n most_counted) ≡ nat_le k n
@@ -14,7 +14,7 @@ nat_le-counted k n few = elim (cases_lt n k) [
 ]
 
 -- frames are full by their size
-pub full-counted : (size : Sizes) (fs : List Frame) → Counts size fs → is_full fs ≡ (size.go || (nat_le 4096 size.frames || nat_le (2 ^ 28) size.bytes))
+pub full-counted : (size : Sizes) (fs : List Frame) → IsSizeOf size fs → is_full fs ≡ (size.go || (nat_le 4096 size.frames || nat_le (2 ^ 28) size.bytes))
 unfolding is_full
 full-counted size fs counts =
     let few = ap (nat_le 4096) counts.number ∙ nat_le-counted 4096 (length fs) (omega arith) in

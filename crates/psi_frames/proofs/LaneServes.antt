@@ -25,9 +25,9 @@ use Rattle.psi_frames.specs.declared.reply.Reply.{Reply}
 use Rattle.psi_frames.specs.declared.reply.Reply.TheVariants as reply
 use Rattle.psi_frames.specs.declared.request.Request.{Request}
 use Rattle.psi_frames.specs.declared.request.Request.TheVariants as request
-use Rattle.psi_frames.specs.Requests.{call_of, code_of, is_repack, journal_full, query_of}
+use Rattle.psi_frames.specs.Requests.{call_of, code_of, is_repack, journal_full, asked_ciphertexts}
 use Rattle.psi_frames.specs.Served.{Exchange, Sent, exchanges, requests_of, text_of, place_of, from_of, from_or_zero, places_of_round, uncoded_of_round, journal_limit, PlacesRise, StaysFull, IsRecorded, HasPlaceOrIsFull, FollowOn, IsFromWithin, IsEvaluated, AreServed, IsOneLane, IsOneLaneText}
-use Rattle.psi_frames.specs.OneLane.{HasByteCode, call_on, entries_by, lane_history, lane_next, lane_replies, lane_reply, reply_by, reply_of, version_by}
+use Rattle.psi_frames.specs.OneLane.{HasByteCode, call_on, entries_by, lane_history, lane_next, lane_replies, lane_reply, reply_by, reply_telling, version_by}
 use Rattle.psi_frames.proofs.Each.{each-vacuous, each-weaker}
 use Rattle.psi_frames.proofs.Placed.{IsCodedRight, some_place}
 use Rattle.psi_frames.proofs.Turns.{Turned, turned, answer-reply, body-reply, from-reply, no_refusal, place-reply, repack-tells}
@@ -81,7 +81,7 @@ stays-turn p v n ns byte (Turned.Full uncoded_here full none) =
     each-weaker (λ e. place_of e.reply ≡ None) (λ e. lane_reply p v n.1 ≡ reply.Refused journal_full → place_of e.reply ≡ None) (λ e h _. h) (lane p (lane_next v n.1) ns)
     (lane-full p (lane_next v n.1) ns (subst (λ (w : Version). journal_limit ≤ w.count) (sym same) full))
 stays-turn p v n ns byte (Turned.Makes c uncoded_here room calls some) =
-    each-vacuous (λ e. place_of e.reply ≡ None) (lane p (lane_next v n.1) ns) (rw some (no_refusal (step v c).answer v.count journal_full (reply_body p v.rows (query_of n.1))))
+    each-vacuous (λ e. place_of e.reply ≡ None) (lane p (lane_next v n.1) ns) (rw some (no_refusal (step v c).answer v.count journal_full (reply_body p v.rows (asked_ciphertexts n.1))))
 
 lane-stays : (p : Parameters) (v : Version) (ns : List (ℕ × Request)) → AllByRecursion (λ n. HasByteCode n.1) ns → AllPairs StaysFull (lane p v ns)
 lane-stays p v [] byte = λ i j d lt le. absurd (omega arith)
@@ -183,8 +183,8 @@ version-there start done rest v n led same =
     ap (λ (k : ℕ). replay start (take k (done ++ rest))) (sym same ∙ sym led.number) ∙ ap (replay start) (take-append_seam done rest) ∙ led.replayed
 
 -- the call of a request does not change with its reply's `from`
-from-repacked : (v : Version) (row from n : ℕ) (body : List ℕ) → from_or_zero (reply_of (step v (call.Repack row from)).answer n body) ≡ n
-from-repacked v row from n body = by_from (reply_of (step v (call.Repack row from)).answer n body) (repack-tells v row from n body) (from-reply (step v (call.Repack row from)).answer n body) where
+from-repacked : (v : Version) (row from n : ℕ) (body : List ℕ) → from_or_zero (reply_telling (step v (call.Repack row from)).answer n body) ≡ n
+from-repacked v row from n body = by_from (reply_telling (step v (call.Repack row from)).answer n body) (repack-tells v row from n body) (from-reply (step v (call.Repack row from)).answer n body) where
   by_from : (r : Reply) → IsSome (from_of r) → ((x : ℕ) → from_of r ≡ Some x → x ≡ n) → from_or_zero r ≡ n
   by_from (reply.Repacked place x before after) told own = own x refl
   by_from (reply.Moved place x stamp) told own = own x refl
@@ -196,14 +196,14 @@ from-repacked v row from n body = by_from (reply_of (step v (call.Repack row fro
   by_from (reply.Answer place x) told own = absurd (cc)
   by_from (reply.Refused code) told own = absurd (cc)
 
-same_call : (v : Version) (r : Request) (c : Call) (body : List ℕ) → call_of r v.count ≡ Some c → call_of r (from_or_zero (reply_of (step v c).answer v.count body)) ≡ Some c
+same_call : (v : Version) (r : Request) (c : Call) (body : List ℕ) → call_of r v.count ≡ Some c → call_of r (from_or_zero (reply_telling (step v c).answer v.count body)) ≡ Some c
 same_call v (request.Put session number tag label) c body e = e
 same_call v (request.Drop session number tag) c body e = e
 same_call v (request.Ask session number query) c body e = e
 same_call v (request.Bad session number code) c body e = absurd (cc)
 same_call v (request.Repack session number row) c body e =
     let same : call.Repack row v.count ≡ c = cc in
-    subst (λ (d : Call). Some (call.Repack row (from_or_zero (reply_of (step v d).answer v.count body))) ≡ Some d) same
+    subst (λ (d : Call). Some (call.Repack row (from_or_zero (reply_telling (step v d).answer v.count body))) ≡ Some d) same
     (ap (λ (k : ℕ). Some (call.Repack row k)) (from-repacked v row v.count v.count body))
 
 -- the history has the entry of each exchange at its place
@@ -215,10 +215,10 @@ recorded-turn p start v done rest n led (Turned.Makes c uncoded_here room calls 
     rw some (λ place a ep ea.
     let here : place_of (reply_by p v n.1 (Some c)) ≡ Some v.count = place-reply _ _ _ in
     let same : v.count ≡ place = cc in
-    let told = answer-reply (step v c).answer v.count (reply_body p v.rows (query_of n.1)) in
+    let told = answer-reply (step v c).answer v.count (reply_body p v.rows (asked_ciphertexts n.1)) in
     let answer : (step v c).answer ≡ a = cc in
     next_entry done (record { call = c; answer = (step v c).answer }) rest place (led.number ∙ same)
-    ∙ sym (ap (λ (o : Option Call). option_map (λ d. record { call = d; answer = a }) o) (same_call v n.1 c (reply_body p v.rows (query_of n.1)) calls)
+    ∙ sym (ap (λ (o : Option Call). option_map (λ d. record { call = d; answer = a }) o) (same_call v n.1 c (reply_body p v.rows (asked_ciphertexts n.1)) calls)
     ∙ ap (λ (b : Answer). Some (record { call = c; answer = b })) (sym answer)))
 
 lane-recorded : (p : Parameters) (start v : Version) (done : List Entry) (ns : List (ℕ × Request)) → HasLedTo start done v
@@ -238,8 +238,8 @@ evaluated-turn : (p : Parameters) (start v : Version) (done rest : List Entry) (
 evaluated-turn p start v done rest n (Some c) led place body ep eb =
     let here : place_of (reply_by p v n.1 (Some c)) ≡ Some v.count = place-reply _ _ _ in
     let same : v.count ≡ place = cc in
-    body-reply (step v c).answer v.count (reply_body p v.rows (query_of n.1)) body eb
-    ∙ ap (λ (w : Version). reply_body p w.rows (query_of n.1)) (sym (version-there start done rest v place led same))
+    body-reply (step v c).answer v.count (reply_body p v.rows (asked_ciphertexts n.1)) body eb
+    ∙ ap (λ (w : Version). reply_body p w.rows (asked_ciphertexts n.1)) (sym (version-there start done rest v place led same))
 evaluated-turn p start v done rest n None led place body ep eb = absurd (cc)
 
 lane-evaluated : (p : Parameters) (start v : Version) (done : List Entry) (ns : List (ℕ × Request)) → HasLedTo start done v

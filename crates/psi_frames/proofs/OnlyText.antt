@@ -19,9 +19,9 @@ use Rattle.psi_frames.specs.declared.reply.Reply.{Reply}
 use Rattle.psi_frames.specs.declared.reply.Reply.TheVariants as reply
 use Rattle.psi_frames.specs.declared.request.Request.{Request}
 use Rattle.psi_frames.specs.declared.request.Request.TheVariants as request
-use Rattle.psi_frames.specs.Requests.{call_of, code_of, is_repack, journal_full, query_of}
+use Rattle.psi_frames.specs.Requests.{call_of, code_of, is_repack, journal_full, asked_ciphertexts}
 use Rattle.psi_frames.specs.Served.{Exchange, Sent, exchanges, requests_of, text_of, place_of, from_of, from_or_zero, answer_of, body_of, all_places, address_of_reply, address_of_request, journal_limit, AreServed, HasPlaceOrIsFull, IsEvaluated, IsOneLane, IsRecorded, StaysFull}
-use Rattle.psi_frames.specs.OneLane.{HasByteCode, LaneRepliesAreOfOneLane, OneTextIsOfOneLane, call_on, entries_by, lane_next, lane_replies, lane_reply, reply_by, reply_of}
+use Rattle.psi_frames.specs.OneLane.{HasByteCode, LaneRepliesAreOfOneLane, OneTextIsOfOneLane, call_on, entries_by, lane_next, lane_replies, lane_reply, reply_by, reply_telling}
 use Rattle.psi_frames.proofs.Each.{each-append, each-weaker}
 use Rattle.psi_frames.proofs.Placed.{IsCodedRight, none_from, places-append, tells_answer}
 use Rattle.psi_frames.proofs.Turns.{Turned, turned, count-behind, place-reply}
@@ -31,7 +31,7 @@ use Rattle.psi_frames.proofs.LaneServes.{HasLedTo, count-replay, coded-turn, lan
 use Rattle.psi_frames.proofs.OneText.{IsSplit, full-is, place-is}
 
 -- a reply is what it tells: its place, its answer, its `from` and its body
-is_told : (y : Reply) (a : Answer) (x : ℕ) (body : List ℕ) → place_of y ≡ Some x → answer_of y ≡ Some a → ((from : ℕ) → from_of y ≡ Some from → from ≡ x) → ((b : List ℕ) → body_of y ≡ Some b → b ≡ body) → y ≡ reply_of a x body
+is_told : (y : Reply) (a : Answer) (x : ℕ) (body : List ℕ) → place_of y ≡ Some x → answer_of y ≡ Some a → ((from : ℕ) → from_of y ≡ Some from → from ≡ x) → ((b : List ℕ) → body_of y ≡ Some b → b ≡ body) → y ≡ reply_telling a x body
 is_told (reply.Added place) a x body p e from told = let same : place ≡ x = cc in let here : answer.Added ≡ a = cc in rw (sym here, same) refl
 is_told (reply.Replaced place) a x body p e from told = let same : place ≡ x = cc in let here : answer.Replaced ≡ a = cc in rw (sym here, same) refl
 is_told (reply.Removed place) a x body p e from told = let same : place ≡ x = cc in let here : answer.Removed ≡ a = cc in rw (sym here, same) refl
@@ -134,12 +134,12 @@ module _ (p : Parameters) (start : Version) (given history : List Entry) (rounds
         let legal = legal_there start done entry next.0 (subst (IsLegal start) (is ∙ ap (λ (m : List Entry). done ++ m) next.1) served.stepped.legal) in
         let answer : told.0 ≡ (step v c).answer = legal ∙ ap (λ (w : Version). (step w c).answer) led.replayed in
         let evaluated = (at (IsEvaluated p start history) served.evaluated).1 in
-        let body : (b : List ℕ) → body_of e.reply ≡ Some b → b ≡ reply_body p v.rows (query_of e.request) =
-        λ b eb. evaluated x b place eb ∙ ap (λ (w : Version). reply_body p w.rows (query_of e.request))
+        let body : (b : List ℕ) → body_of e.reply ≡ Some b → b ≡ reply_body p v.rows (asked_ciphertexts e.request) =
+        λ b eb. evaluated x b place eb ∙ ap (λ (w : Version). reply_body p w.rows (asked_ciphertexts e.request))
         (ap (λ (h : List Entry). version_at start h x) is ∙ version-there start done more v x led (sym here)) in
-        let is_reply = is_told e.reply told.0 x (reply_body p v.rows (query_of e.request)) place told.1 (λ n ef. own_from n x ef place) body in
+        let is_reply = is_told e.reply told.0 x (reply_body p v.rows (asked_ciphertexts e.request)) place told.1 (λ n ef. own_from n x ef place) body in
         record {
-          same = is_reply ∙ (λ i. reply_of (answer i) (here i) (reply_body p v.rows (query_of e.request))) ∙ ap (reply_by p v e.request) (sym some);
+          same = is_reply ∙ (λ i. reply_telling (answer i) (here i) (reply_body p v.rows (asked_ciphertexts e.request))) ∙ ap (reply_by p v e.request) (sym some);
           rest = next.0;
           goes_on = next.1 ∙ (λ i. record { call = c; answer = answer i } ∷ next.0) ∙ ap (λ (o : Option Call). entries_by v o ++ next.0) (sym some);
         }
@@ -203,7 +203,7 @@ places-more xs e v r p t same =
       by_turn (Turned.Coded own coded none) same = rw none (rw (same, none) refl)
       by_turn (Turned.Full uncoded_here full none) same = rw none (rw (same, none) refl)
       by_turn (Turned.Makes c uncoded_here room calls some) same =
-          let place : place_of e.reply ≡ Some v.count = ap place_of (same ∙ ap (reply_by p v r) some) ∙ place-reply (step v c).answer v.count (reply_body p v.rows (query_of r)) in
+          let place : place_of e.reply ≡ Some v.count = ap place_of (same ∙ ap (reply_by p v r) some) ∙ place-reply (step v c).answer v.count (reply_body p v.rows (asked_ciphertexts r)) in
           rw some (rw place refl)
 
 module _ (p : Parameters) (start : Version) (given history : List Entry) (rounds : List (List Request)) (whole : List Exchange)

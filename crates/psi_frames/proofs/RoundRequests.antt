@@ -17,7 +17,7 @@ use Rattle.psi_frames.specs.declared.frame.Frame.{Frame}
 use Rattle.psi_frames.specs.declared.request.Request.{Request}
 use Rattle.psi_frames.specs.declared.request.Request.TheVariants as request
 use Rattle.psi_frames.specs.Frames.{ask_kind, drop_kind, go_kind, put_kind}
-use Rattle.psi_frames.specs.Requests.{IsFit, ask_code, ask_request, asks_behind, asks_of_round, code_of_fault, count_asks, counted, drop_code, drop_request, has_item, is_ask, item_of, label_of, put_code, put_request, repack_code, repack_request, request_of, requests_from, unless_coded, wrong_label, wrong_length, wrong_row}
+use Rattle.psi_frames.specs.Requests.{IsFit, ask_code, ask_request, asks_behind, asks_of_round, code_of_fault, count_asks, counted, drop_code, drop_request, has_item, is_ask, item_of, put_label, put_code, put_request, repack_code, repack_request, request_of, requests_from, unless_coded, wrong_label, wrong_length, wrong_row}
 use Rattle.psi_frames.specs.Rounds.{IsRound, is_full, is_go}
 
 -- a code that the bytes of a round decide
@@ -52,12 +52,12 @@ code-repack true true = tt
 code-repack true false = (omega arith, omega arith)
 
 -- what a frame without a code has
-pub put-fits : (p : Parameters) (body : List ℕ) → put_code p body ≡ None → HasLabelLength p (label_of body)
-put-fits p body e = by_item (has_item body) (has_label_length p (label_of body)) refl e where
-  by_item : (item label : Bool) → has_label_length p (label_of body) ≡ label → (if not item then Some wrong_length else (if label then None else Some wrong_label)) ≡ None → HasLabelLength p (label_of body)
+pub put-fits : (p : Parameters) (body : List ℕ) → put_code p body ≡ None → HasLabelLength p (put_label body)
+put-fits p body e = by_item (has_item body) (has_label_length p (put_label body)) refl e where
+  by_item : (item label : Bool) → has_label_length p (put_label body) ≡ label → (if not item then Some wrong_length else (if label then None else Some wrong_label)) ≡ None → HasLabelLength p (put_label body)
   by_item false label is e = absurd (cc)
   by_item true false is e = absurd (cc)
-  by_item true true is e = eqb-true (length (label_of body)) (10 * p.units) is
+  by_item true true is e = eqb-true (length (put_label body)) (10 * p.units) is
 
 ask-fits : (p : Parameters) (body : List ℕ) → length (query_ciphertexts p body) ≡ p.rows * p.capacity
 unfolding query_ciphertexts ciphertexts_in
@@ -79,7 +79,7 @@ fit-request : (p : Parameters) (f : Frame) → IsFit p (request_of p f)
 unfolding request_of
 fit-request p f =
     let put : IsFit p (put_request p f) =
-    fit-unless p (put_code p f.body) f (request.Put f.session f.number (tag_of (item_of f.body)) (label_of f.body)) (code-put (has_item f.body) (has_label_length p (label_of f.body))) (put-fits p f.body) in
+    fit-unless p (put_code p f.body) f (request.Put f.session f.number (tag_of (item_of f.body)) (put_label f.body)) (code-put (has_item f.body) (has_label_length p (put_label f.body))) (put-fits p f.body) in
     let drop : IsFit p (drop_request f) = fit-unless p (drop_code f.body) f (request.Drop f.session f.number (tag_of (item_of f.body))) (code-drop _) (λ _. tt) in
     let ask : IsFit p (ask_request p f) =
     fit-unless p (ask_code p f.body) f (request.Ask f.session f.number (query_ciphertexts p f.body)) (code-ask (query_fault p f.body)) (λ _. ask-fits p f.body) in
@@ -140,7 +140,7 @@ ask-kind : (p : Parameters) (f : Frame) → is_ask (request_of p f) ≡ true →
 unfolding request_of
 ask-kind p f e = eqb-true f.kind ask_kind (by_kind (nat_eq f.kind put_kind) (nat_eq f.kind drop_kind) (nat_eq f.kind ask_kind) e) where
   by_kind : (put drop ask : Bool) → is_ask (if put then put_request p f else (if drop then drop_request f else (if ask then ask_request p f else repack_request p f))) ≡ true → ask ≡ true
-  by_kind true drop ask e = let no = no_ask-unless (put_code p f.body) f (request.Put f.session f.number (tag_of (item_of f.body)) (label_of f.body)) refl in absurd (cc)
+  by_kind true drop ask e = let no = no_ask-unless (put_code p f.body) f (request.Put f.session f.number (tag_of (item_of f.body)) (put_label f.body)) refl in absurd (cc)
   by_kind false true ask e = let no = no_ask-unless (drop_code f.body) f (request.Drop f.session f.number (tag_of (item_of f.body))) refl in absurd (cc)
   by_kind false false true e = refl
   by_kind false false false e = let no = no_ask-unless (repack_code p f.body) f (request.Repack f.session f.number (slice_index f.body 0)) refl in absurd (cc)

@@ -15,10 +15,10 @@ use Rattle.psi_frames.specs.declared.request.Request.{Request}
 use Rattle.psi_frames.specs.declared.request.Request.TheVariants as request
 use Rattle.psi_frames.specs.Requests.{call_of, code_of}
 use Rattle.psi_frames.specs.Served.{place_of, from_of, body_of, answer_of, journal_limit}
-use Rattle.psi_frames.specs.OneLane.{reply_of, call_on, version_by, entries_by}
+use Rattle.psi_frames.specs.OneLane.{reply_telling, call_on, version_by, entries_by}
 
 -- the reply that tells an answer at a place: its place, its answer, its `from` and its body
-pub place-reply : (a : Answer) (n : ℕ) (body : List ℕ) → place_of (reply_of a n body) ≡ Some n
+pub place-reply : (a : Answer) (n : ℕ) (body : List ℕ) → place_of (reply_telling a n body) ≡ Some n
 place-reply answer.Added n body = refl
 place-reply answer.Replaced n body = refl
 place-reply answer.Removed n body = refl
@@ -28,7 +28,7 @@ place-reply answer.Seen n body = refl
 place-reply (answer.Done x y) n body = refl
 place-reply (answer.Moved x) n body = refl
 
-pub answer-reply : (a : Answer) (n : ℕ) (body : List ℕ) → answer_of (reply_of a n body) ≡ Some a
+pub answer-reply : (a : Answer) (n : ℕ) (body : List ℕ) → answer_of (reply_telling a n body) ≡ Some a
 answer-reply answer.Added n body = refl
 answer-reply answer.Replaced n body = refl
 answer-reply answer.Removed n body = refl
@@ -38,7 +38,7 @@ answer-reply answer.Seen n body = refl
 answer-reply (answer.Done x y) n body = refl
 answer-reply (answer.Moved x) n body = refl
 
-pub from-reply : (a : Answer) (n : ℕ) (body : List ℕ) (from : ℕ) → from_of (reply_of a n body) ≡ Some from → from ≡ n
+pub from-reply : (a : Answer) (n : ℕ) (body : List ℕ) (from : ℕ) → from_of (reply_telling a n body) ≡ Some from → from ≡ n
 from-reply answer.Added n body from e = cc
 from-reply answer.Replaced n body from e = cc
 from-reply answer.Removed n body from e = cc
@@ -48,7 +48,7 @@ from-reply answer.Seen n body from e = cc
 from-reply (answer.Done x y) n body from e = cc
 from-reply (answer.Moved x) n body from e = cc
 
-pub body-reply : (a : Answer) (n : ℕ) (body told : List ℕ) → body_of (reply_of a n body) ≡ Some told → told ≡ body
+pub body-reply : (a : Answer) (n : ℕ) (body told : List ℕ) → body_of (reply_telling a n body) ≡ Some told → told ≡ body
 body-reply answer.Added n body told e = cc
 body-reply answer.Replaced n body told e = cc
 body-reply answer.Removed n body told e = cc
@@ -58,7 +58,7 @@ body-reply answer.Seen n body told e = cc
 body-reply (answer.Done x y) n body told e = cc
 body-reply (answer.Moved x) n body told e = cc
 
-pub no_refusal : (a : Answer) (n code : ℕ) (body : List ℕ) → reply_of a n body ≡ reply.Refused code → ⊥
+pub no_refusal : (a : Answer) (n code : ℕ) (body : List ℕ) → reply_telling a n body ≡ reply.Refused code → ⊥
 no_refusal answer.Added n code body e = cc
 no_refusal answer.Replaced n code body e = cc
 no_refusal answer.Removed n code body e = cc
@@ -69,11 +69,11 @@ no_refusal (answer.Done x y) n code body e = cc
 no_refusal (answer.Moved x) n code body e = cc
 
 -- an answer to a Repack is told with a `from`
-either_from : (b : Bool) (x y : Step) (n : ℕ) (body : List ℕ) → IsSome (from_of (reply_of x.answer n body)) → IsSome (from_of (reply_of y.answer n body)) → IsSome (from_of (reply_of (if b then x else y).answer n body))
+either_from : (b : Bool) (x y : Step) (n : ℕ) (body : List ℕ) → IsSome (from_of (reply_telling x.answer n body)) → IsSome (from_of (reply_telling y.answer n body)) → IsSome (from_of (reply_telling (if b then x else y).answer n body))
 either_from true x y n body p q = p
 either_from false x y n body p q = q
 
-pub repack-tells : (v : Version) (row from n : ℕ) (body : List ℕ) → IsSome (from_of (reply_of (step v (call.Repack row from)).answer n body))
+pub repack-tells : (v : Version) (row from n : ℕ) (body : List ℕ) → IsSome (from_of (reply_telling (step v (call.Repack row from)).answer n body))
 unfolding step
 repack-tells v row from n body =
     let packed = packed_row v.parameters.capacity (v.count + 1) (members_of_row (row_at v.rows row)) in

@@ -136,8 +136,8 @@ reply_content (reply.Moved place from stamp) = big_bytes 8 place ++ big_bytes 8 
 reply_content (reply.Refused code) = big_bytes 1 code
 
 -- a reply frame as bytes
-abbrev pub reply_bytes : (session number : ℕ) → Reply → List ℕ
-reply_bytes session number r = spelled (reply_kind r) session number (reply_content r)
+abbrev pub reply_frame_bytes : (session number : ℕ) → Reply → List ℕ
+reply_frame_bytes session number r = spelled (reply_kind r) session number (reply_content r)
 
 -- The reply's frame has a length that a frame may have. The body of an answer alone could be too long.
 abbrev pub answer_fits : Reply → Type 0
@@ -147,7 +147,7 @@ answer_fits r = head_bytes + length (reply_content r) ≤ greatest_length
 abbrev pub NoReplyBeginsAnother : Type 0
 NoReplyBeginsAnother =
     (session number other_session other_number : ℕ) (a b : Reply) (rest : List ℕ) → answer_fits a → answer_fits b
-    → reply_bytes session number a ++ rest ≡ reply_bytes other_session other_number b → rest ≡ []
+    → reply_frame_bytes session number a ++ rest ≡ reply_frame_bytes other_session other_number b → rest ≡ []
 
 -- No request frame begins another one, and no two have the same bytes.
 abbrev pub NoRequestBeginsAnother : Type 0

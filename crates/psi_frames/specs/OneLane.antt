@@ -13,19 +13,19 @@ use Rattle.query_codec.specs.Replies.{reply_body}
 use Rattle.psi_frames.specs.declared.reply.Reply.{Reply}
 use Rattle.psi_frames.specs.declared.reply.Reply.TheVariants as reply
 use Rattle.psi_frames.specs.declared.request.Request.{Request}
-use Rattle.psi_frames.specs.Requests.{call_of, code_of, query_of, session_of, number_of, journal_full}
+use Rattle.psi_frames.specs.Requests.{call_of, code_of, asked_ciphertexts, session_of, number_of, journal_full}
 use Rattle.psi_frames.specs.Served.{Sent, IsOneLaneText, journal_limit, requests_of, text_of}
 
 -- the reply that tells an answer at a place; a query's body is told with Seen, and a Repack's `from` is its place
-abbrev pub reply_of : Answer → (place : ℕ) → (body : List ℕ) → Reply
-reply_of answer.Added place body = reply.Added place
-reply_of answer.Replaced place body = reply.Replaced place
-reply_of answer.Removed place body = reply.Removed place
-reply_of answer.Absent place body = reply.Absent place
-reply_of (answer.Full planes cells) place body = reply.Full place planes cells
-reply_of answer.Seen place body = reply.Answer place body
-reply_of (answer.Done before after) place body = reply.Repacked place place before after
-reply_of (answer.Moved stamp) place body = reply.Moved place place stamp
+abbrev pub reply_telling : Answer → (place : ℕ) → (body : List ℕ) → Reply
+reply_telling answer.Added place body = reply.Added place
+reply_telling answer.Replaced place body = reply.Replaced place
+reply_telling answer.Removed place body = reply.Removed place
+reply_telling answer.Absent place body = reply.Absent place
+reply_telling (answer.Full planes cells) place body = reply.Full place planes cells
+reply_telling answer.Seen place body = reply.Answer place body
+reply_telling (answer.Done before after) place body = reply.Repacked place place before after
+reply_telling (answer.Moved stamp) place body = reply.Moved place place stamp
 
 -- the call that a request makes on a version, a Repack from the version's own count; none where the request has a code, or the journal is full
 unfoldable pub call_on : Version → Request → Option Call
@@ -38,7 +38,7 @@ refusal_code None = journal_full
 
 -- the reply to a request that makes this call, or none
 abbrev pub reply_by : Parameters → Version → Request → Option Call → Reply
-reply_by p v r (Some c) = reply_of (step v c).answer v.count (reply_body p v.rows (query_of r))
+reply_by p v r (Some c) = reply_telling (step v c).answer v.count (reply_body p v.rows (asked_ciphertexts r))
 reply_by p v r None = reply.Refused (refusal_code (code_of r))
 
 -- the version after it

@@ -50,12 +50,12 @@ abbrev pub has_item : List ℕ → Bool
 has_item body = nat_lt 0 (length body) && nat_le (item_end body) (length body)
 
 -- what follows the item of a Put
-abbrev pub label_of : List ℕ → List ℕ
-label_of body = drop (item_end body) body
+abbrev pub put_label : List ℕ → List ℕ
+put_label body = drop (item_end body) body
 
 -- the code of a Put, by its body, if it has one
 abbrev pub put_code : Parameters → List ℕ → Option ℕ
-put_code p body = if not (has_item body) then Some wrong_length else (if has_label_length p (label_of body) then None else Some wrong_label)
+put_code p body = if not (has_item body) then Some wrong_length else (if has_label_length p (put_label body) then None else Some wrong_label)
 
 abbrev pub drop_code : List ℕ → Option ℕ
 drop_code body = if has_item body && nat_eq (length body) (item_end body) then None else Some wrong_length
@@ -81,7 +81,7 @@ unless_coded (Some code) f r = request.Bad f.session f.number code
 
 -- what a frame of each kind asks
 abbrev pub put_request : Parameters → Frame → Request
-put_request p f = unless_coded (put_code p f.body) f (request.Put f.session f.number (tag_of (item_of f.body)) (label_of f.body))
+put_request p f = unless_coded (put_code p f.body) f (request.Put f.session f.number (tag_of (item_of f.body)) (put_label f.body))
 
 abbrev pub drop_request : Frame → Request
 drop_request f = unless_coded (drop_code f.body) f (request.Drop f.session f.number (tag_of (item_of f.body)))
@@ -149,12 +149,12 @@ call_of (request.Repack session number row) from = Some (call.Repack row from)
 call_of (request.Bad session number code) from = None
 
 -- the ciphertexts of a query; of another request none
-abbrev pub query_of : Request → List (List (List ℕ))
-query_of (request.Ask session number query) = query
-query_of (request.Put session number tag label) = []
-query_of (request.Drop session number tag) = []
-query_of (request.Repack session number row) = []
-query_of (request.Bad session number code) = []
+abbrev pub asked_ciphertexts : Request → List (List (List ℕ))
+asked_ciphertexts (request.Ask session number query) = query
+asked_ciphertexts (request.Put session number tag label) = []
+asked_ciphertexts (request.Drop session number tag) = []
+asked_ciphertexts (request.Repack session number row) = []
+asked_ciphertexts (request.Bad session number code) = []
 
 -- a Repack
 abbrev pub is_repack : Request → Bool

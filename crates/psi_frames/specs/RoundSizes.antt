@@ -16,7 +16,7 @@ abbrev pub most_counted : ℕ
 most_counted = 2 ^ 64 - 1
 
 -- The size counts these frames.
-pub record Counts (size : Sizes) (frames : List Frame) : Type 0 where
+pub record IsSizeOf (size : Sizes) (frames : List Frame) : Type 0 where
   pub go : size.go ≡ list_any is_go frames
   pub number : size.frames ≡ min (length frames) most_counted
   pub bytes : size.bytes ≡ min (length (frames_bytes frames)) most_counted

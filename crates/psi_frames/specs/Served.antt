@@ -15,8 +15,8 @@ use Rattle.psi_frames.specs.declared.reply.Reply.{Reply}
 use Rattle.psi_frames.specs.declared.reply.Reply.TheVariants as reply
 use Rattle.psi_frames.specs.declared.request.Request.{Request}
 use Rattle.psi_frames.specs.declared.frame.Frame.{Frame}
-use Rattle.psi_frames.specs.Frames.{reply_bytes}
-use Rattle.psi_frames.specs.Requests.{call_of, code_of, query_of, session_of, number_of, is_repack, journal_full}
+use Rattle.psi_frames.specs.Frames.{reply_frame_bytes}
+use Rattle.psi_frames.specs.Requests.{call_of, code_of, asked_ciphertexts, session_of, number_of, is_repack, journal_full}
 use Rattle.psi_frames.specs.Rounds.{AreRounds, request_rounds}
 
 -- a reply as it is sent: with the session and the number of its request
@@ -38,7 +38,7 @@ addressed requests replies = map (λ e. record { session = session_of e.0; numbe
 
 -- the text of some replies: their frames, one after another
 abbrev pub text_of : List Sent → List ℕ
-text_of sents = flat_map (λ s. reply_bytes s.session s.number s.reply) sents
+text_of sents = flat_map (λ s. reply_frame_bytes s.session s.number s.reply) sents
 
 -- the place of a reply, if it has one
 abbrev pub place_of : Reply → Option ℕ
@@ -206,7 +206,7 @@ pub record FromsSeeEarlier (given : List Entry) (es : List Exchange) : Type 0 wh
 -- a query is answered from the version at its place
 abbrev pub IsEvaluated : Parameters → Version → List Entry → Exchange → Type 0
 IsEvaluated parameters start history e = (p : ℕ) (body : List ℕ) → place_of e.reply ≡ Some p → body_of e.reply ≡ Some body
-    → body ≡ reply_body parameters (version_at start history p).rows (query_of e.request)
+    → body ≡ reply_body parameters (version_at start history p).rows (asked_ciphertexts e.request)
 
 -- 7. Each query is answered from the set at its own place.
 abbrev pub AreEvaluatedInPlace : Parameters → Version → List Entry → List Exchange → Type 0

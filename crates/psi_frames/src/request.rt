@@ -4,7 +4,7 @@ ghost use Rattle.psi_bundle.specs.Versions.{HasLabelLength};
 ghost use Rattle.item_slots.specs.Tags.{tag_of};
 ghost use Rattle.noise_ledger.specs.Verdicts.{ArePassed, parameters_of};
 ghost use Rattle.psi_frames.specs.Frames.{put_kind, repack_kind};
-ghost use Rattle.psi_frames.specs.Requests.{ask_request, code_of_fault, drop_code, drop_request, has_item, item_of, label_of, put_code, put_request, repack_code, repack_request, request_of};
+ghost use Rattle.psi_frames.specs.Requests.{ask_request, code_of_fault, drop_code, drop_request, has_item, item_of, put_label, put_code, put_request, repack_code, repack_request, request_of};
 
 use crate::frame::{ASK, DROP, Frame, PUT};
 use item_slots::{Tag, tag_of};
@@ -176,7 +176,7 @@ fn repack_request(params: &Params, frame: &Frame) -> Request
 fn put_code(params: &Params, body: &[u8]) -> Option<u8>
     ensures code { result ≡ put_code (parameters_of params.now) body.now }
     ensures item { IsNone result → IsTrue (has_item body.now) }
-    ensures label { IsNone result → HasLabelLength (parameters_of params.now) (label_of body.now) }
+    ensures label { IsNone result → HasLabelLength (parameters_of params.now) (put_label body.now) }
 {
     if !has_item(body) {
         Some(WRONG_LENGTH)
@@ -243,7 +243,7 @@ fn item(body: &[u8]) -> &[u8]
 // The label of a Put, from its body.
 fn label(body: &[u8]) -> &[u8]
     requires { IsTrue (has_item body.now) }
-    ensures { result.now ≡ label_of body.now }
+    ensures { result.now ≡ put_label body.now }
 {
     &body[1 + usize::from(body[0])..]
 }

@@ -3,7 +3,7 @@ ghost use Rattle.std.specs.Prelude.{◌≡◌, ◌^◌, ◌||◌, nat_le, List, 
 ghost use Rattle.psi_frames.specs.declared.frame.Frame.{Frame};
 ghost use Rattle.psi_frames.specs.Frames.{frame_bytes};
 ghost use Rattle.psi_frames.specs.Rounds.{is_full};
-ghost use Rattle.psi_frames.specs.RoundSizes.{Counts};
+ghost use Rattle.psi_frames.specs.RoundSizes.{IsSizeOf};
 
 use crate::frame::{Frame, GO, HEAD_BYTES};
 use std::marker::Model;
@@ -35,7 +35,7 @@ impl Model for RoundSize {
 impl RoundSize {
     /// The size of no frames.
     pub fn new() -> RoundSize
-        ensures { Counts result [] }
+        ensures { IsSizeOf result [] }
     {
         RoundSize {
             go: false,
@@ -46,7 +46,7 @@ impl RoundSize {
 
     /// Counts one more frame.
     pub fn push(&mut self, frame: &Frame)
-        ensures { (fs : List Frame) → Counts self.old fs → Counts self.new (fs ++ frame.now ∷ []) }
+        ensures { (fs : List Frame) → IsSizeOf self.old fs → IsSizeOf self.new (fs ++ frame.now ∷ []) }
     {
         self.go = self.go || frame.kind == GO;
         self.frames = self.frames.saturating_add(1);
@@ -56,7 +56,7 @@ impl RoundSize {
     /// Whether the frames that were counted are a full round: one of them is a Go frame, or they are 4096, or they have
     /// 2^28 bytes.
     pub fn is_full(&self) -> bool
-        ensures { (fs : List Frame) → Counts self.now fs → result ≡ is_full fs }
+        ensures { (fs : List Frame) → IsSizeOf self.now fs → result ≡ is_full fs }
     {
         is_full_size(self.go, self.frames, self.bytes)
     }

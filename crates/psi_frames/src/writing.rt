@@ -1,7 +1,7 @@
 //! Frames as bytes.
 ghost use Rattle.std.specs.Prelude.{◌≡◌, ◌≤◌, ◌+◌, ◌++◌, length, OnOk, IfOk};
 ghost use Rattle.byteorder.specs.Endian.{big_bytes};
-ghost use Rattle.psi_frames.specs.Frames.{IsFrame, answer_fits, frame_bytes, greatest_length, head_bytes, reply_bytes, request_table};
+ghost use Rattle.psi_frames.specs.Frames.{IsFrame, answer_fits, frame_bytes, greatest_length, head_bytes, reply_frame_bytes, request_table};
 
 use crate::frame::{Frame, HEAD_BYTES};
 use crate::number::{push_u8, push_u16, push_u32, push_u64};
@@ -17,7 +17,7 @@ pub fn write_answer(
     reply: &Reply,
 ) -> Result<Vec<u8>, AllocError>
     requires fits { answer_fits reply.now }
-    ensures frame { IfOk result (λ v. v.items ≡ reply_bytes session number reply.now) }
+    ensures frame { IfOk result (λ v. v.items ≡ reply_frame_bytes session number reply.now) }
 {
     let mut text = Vec::new(alloc);
     append_answer(&mut text, session, number, reply)?;
@@ -52,7 +52,7 @@ fn append_answer(
     reply: &Reply,
 ) -> Result<(), AllocError>
     requires fits { answer_fits reply.now }
-    ensures appended { OnOk result (text.new.items ≡ text.old.items ++ reply_bytes session number reply.now) }
+    ensures appended { OnOk result (text.new.items ≡ text.old.items ++ reply_frame_bytes session number reply.now) }
 {
     match reply {
         Reply::Added { place } => push_placed(text, 129, session, number, *place, 0),

@@ -14,10 +14,10 @@ use Rattle.bfv_core.specs.Encryptions.{IsKey, Carries}
 use Rattle.bfv_core.specs.EncryptedLists.{key_of_seed, hidden, encrypted, first_mask, second_mask}
 use Rattle.psi_residue.proofs.Polynomials.{IsPolynomial-table}
 use Rattle.bfv_core.proofs.Carrying.{carries-encrypted}
-use Rattle.query_codec.specs.Queries.{query_ciphertexts as body_ciphertexts, query_length}
+use Rattle.query_codec.specs.Queries.{encrypted_powers as body_ciphertexts, query_length}
 use Rattle.query_codec.proofs.QueryBodies.{IsQuery-written, query_read_back}
 use Rattle.psi_receiver.specs.declared.placement.Placed.{Placed}
-use Rattle.psi_receiver.specs.Queries.{IsQueryOf, query_ciphertext, query_ciphertexts, query_of}
+use Rattle.psi_receiver.specs.Queries.{IsQueryOf, query_ciphertext, encrypted_powers, query_of}
 
 ternary : (n : ℕ) → unsigned_abs (pos (n % 3) -ℤ pos 1) ≤ 1
 ternary n = small (n % 3) (omega arith)
@@ -76,18 +76,18 @@ encrypted-carries seed c plain = carries-encrypted seed c plain (λ k lt. error-
 
 -- ---- the query's ciphertexts, read back from its body
 
-pub length-query : (p : Parameters) (seed : List ℕ) (placed : List Placed) → length (query_ciphertexts p seed placed) ≡ p.rows * p.capacity
-unfolding query_ciphertexts
+pub length-query : (p : Parameters) (seed : List ℕ) (placed : List Placed) → length (encrypted_powers p seed placed) ≡ p.rows * p.capacity
+unfolding encrypted_powers
 length-query p seed placed = length-map-range_with_len (query_ciphertext p.capacity seed placed) 0 (p.rows * p.capacity)
 
-whole-query : (p : Parameters) (seed : List ℕ) (placed : List Placed) → All IsCiphertext (query_ciphertexts p seed placed)
-unfolding query_ciphertexts query_ciphertext
+whole-query : (p : Parameters) (seed : List ℕ) (placed : List Placed) → All IsCiphertext (encrypted_powers p seed placed)
+unfolding encrypted_powers query_ciphertext
 whole-query p seed placed = All-map IsCiphertext (query_ciphertext p.capacity seed placed) (range_with_len 0 (p.rows * p.capacity)) (λ k d lt. encrypted-ciphertext seed _ _)
 
-pub query-read : (p : Parameters) (seed : List ℕ) (placed : List Placed) → body_ciphertexts p (query_of p seed placed) ≡ query_ciphertexts p seed placed
-query-read p seed placed = query_read_back p (query_ciphertexts p seed placed) (whole-query p seed placed) (length-query p seed placed)
+pub query-read : (p : Parameters) (seed : List ℕ) (placed : List Placed) → body_ciphertexts p (query_of p seed placed) ≡ encrypted_powers p seed placed
+query-read p seed placed = query_read_back p (encrypted_powers p seed placed) (whole-query p seed placed) (length-query p seed placed)
 
 -- the query of tags has the length of a query
 pub query-size : (p : Parameters) (seed : List ℕ) (tags : List (List ℕ)) (body : List ℕ) → IsQueryOf p seed tags body → length body ≡ query_length p
 query-size p seed tags body query =
-    ap length query.2 ∙ (IsQuery-written p (query_ciphertexts p seed query.0) (whole-query p seed query.0) (length-query p seed query.0)).size
+    ap length query.2 ∙ (IsQuery-written p (encrypted_powers p seed query.0) (whole-query p seed query.0) (length-query p seed query.0)).size

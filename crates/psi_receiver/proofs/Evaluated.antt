@@ -20,7 +20,7 @@ use Rattle.psi_bundle.specs.Bins.{bin_at}
 use Rattle.psi_bundle.specs.Bodies.{evaluated_plane}
 use Rattle.psi_bundle.specs.Planes.{part_coefficient, slot_coefficient, packed_plane}
 use Rattle.psi_receiver.specs.declared.placement.Placed.{Placed}
-use Rattle.psi_receiver.specs.Queries.{bin_value, query_ciphertext, query_ciphertexts, powers_of, row_values}
+use Rattle.psi_receiver.specs.Queries.{bin_value, query_ciphertext, encrypted_powers, powers_of, row_values}
 use Rattle.psi_receiver.proofs.Encryptions.{key-ternary, encrypted-ciphertext, encrypted-carries}
 use Rattle.psi_receiver.proofs.RootValues.{values-evaluated}
 use Rattle.batching.proofs.Batches.{packed-polynomial}
@@ -28,7 +28,7 @@ use Rattle.psi_receiver.proofs.SlotValues.{plane-slot, query-slot}
 
 -- the ciphertexts of a row, by their powers less 1, and what they carry
 abbrev row_ciphertext : Parameters → (seed : List ℕ) → List Placed → (row k : ℕ) → List (List ℕ)
-row_ciphertext p seed placed row k = ciphertext_at (query_ciphertexts p seed placed) (row * p.capacity + k)
+row_ciphertext p seed placed row k = ciphertext_at (encrypted_powers p seed placed) (row * p.capacity + k)
 
 abbrev row_plaintext : List Placed → (row k : ℕ) → List ℕ
 row_plaintext placed row k = packed_list (powers_of (row_values placed row) (k + 1))
@@ -40,7 +40,7 @@ number-within row k rows capacity lt below =
 
 row_ciphertext-is : (p : Parameters) (seed : List ℕ) (placed : List Placed) (row k : ℕ) → row < p.rows → k < p.capacity
     → row_ciphertext p seed placed row k ≡ encrypted seed (row * p.capacity + k) (row_plaintext placed row k)
-unfolding query_ciphertexts query_ciphertext
+unfolding encrypted_powers query_ciphertext
 row_ciphertext-is p seed placed row k lt below =
     get_or-map-range_with_len (query_ciphertext p.capacity seed placed) 0 (p.rows * p.capacity) (row * p.capacity + k) (row * p.capacity + k) [] (number-within row k p.rows p.capacity lt below) (omega arith)
     ∙ ap (λ (r : ℕ). encrypted seed (row * p.capacity + k) (packed_list (powers_of (row_values placed r) ((row * p.capacity + k) % p.capacity + 1)))) (div-mul-add row p.capacity k below)
@@ -60,7 +60,7 @@ query-evaluable p seed placed row plane bins passed lt = record {
 -- slot 5·b + j of an opened plane is the value of the polynomial of part j of bin b, at the query's value there
 pub plane-value : (p : Parameters) (seed : List ℕ) (placed : List Placed) (row plane : ℕ) (bins : List (List Member)) (b j : ℕ)
     → ArePassed p → row < p.rows → b < 819 → j < 5
-    → slot_of (opening (key_of_seed seed) (evaluated_plane p (query_ciphertexts p seed placed) row bins plane)) (5 * b + j)
+    → slot_of (opening (key_of_seed seed) (evaluated_plane p (encrypted_powers p seed placed) row bins plane)) (5 * b + j)
     ≡ horner (part_coefficient p (bin_at bins b) plane j) (bin_value placed (819 * row + b) j) (suc p.capacity) 0 % plain_modulus
 plane-value p seed placed row plane bins b j passed lt within part =
     let h = query-evaluable p seed placed row plane bins passed lt in

@@ -19,7 +19,7 @@ use Rattle.psi_bundle.specs.declared.member.Member.{Member}
 use Rattle.psi_bundle.specs.Bins.{roots_of}
 use Rattle.psi_bundle.specs.Histories.{AreBytes}
 use Rattle.psi_bundle.specs.Planes.{label_points, label_value}
-use Rattle.psi_receiver.specs.Findings.{label_of, root_label}
+use Rattle.psi_receiver.specs.Findings.{label_of_member, root_label}
 use Rattle.psi_bundle.proofs.BinChanges.{roots-distinct}
 use Rattle.psi_receiver.proofs.Bins.{IsBin, HasRoot, roots-small}
 
@@ -101,7 +101,7 @@ part-bytes p bin part unit v value h lt few r e =
 
 -- the label of the member with the root
 pub root_label-is : (bin : List Member) (tag : List ℕ) (part : ℕ) → (r : HasRoot bin (slot_value tag part) part) → root_label bin tag part ≡ r.member.label
-root_label-is bin tag part r = ap label_of r.first
+root_label-is bin tag part r = ap label_of_member r.first
 
 -- ---- labels part by part
 

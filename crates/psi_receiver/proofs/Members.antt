@@ -22,7 +22,7 @@ use Rattle.psi_receiver.specs.declared.found.Found.{Found}
 use Rattle.psi_receiver.specs.declared.placement.Placed.{Placed}
 use Rattle.psi_receiver.specs.Findings.{bin_in, has_roots, root_label, found_label, found_at, found_item, found}
 use Rattle.psi_receiver.specs.Laws.{answer_to, item_at}
-use Rattle.psi_receiver.specs.Placements.{placed, placed_item, position_sets}
+use Rattle.psi_receiver.specs.Placements.{placed_tags, placed_item, position_sets}
 use Rattle.psi_receiver.proofs.Bins.{HasRoot, one_member, root-found, root-of_member}
 use Rattle.psi_receiver.proofs.Joined.{opened-found, placed-own}
 use Rattle.psi_receiver.proofs.Labels.{labels-same, root_label-is}
@@ -172,11 +172,11 @@ missing (Some label) h = absurd (h label refl)
 same_label : (a b : List ℕ) → Some a ≡ Some b → a ≡ b
 same_label a b e = cc
 
-found-in_bundle : (v : Version) (placed : List Placed) (x : Placed) (label : List ℕ) → IsSound v → Contains placed x → fin.get v.labels x.tag ≡ Some label
-    → (s : StandsAt (row_at v.rows (x.position / 819)) (x.position % 819) x.tag) → Contains (found v.parameters v.rows placed) (record { item = x.item; bundle = s.bundle; label = label })
+found-in_bundle : (v : Version) (placed_tags : List Placed) (x : Placed) (label : List ℕ) → IsSound v → Contains placed_tags x → fin.get v.labels x.tag ≡ Some label
+    → (s : StandsAt (row_at v.rows (x.position / 819)) (x.position % 819) x.tag) → Contains (found v.parameters v.rows placed_tags) (record { item = x.item; bundle = s.bundle; label = label })
 unfolding found found_item
-found-in_bundle v placed x label sound within known s =
-    contains-flat (found_item v.parameters v.rows) placed x (record { item = x.item; bundle = s.bundle; label = label }) within.0 within.1 within.2
+found-in_bundle v placed_tags x label sound within known s =
+    contains-flat (found_item v.parameters v.rows) placed_tags x (record { item = x.item; bundle = s.bundle; label = label }) within.0 within.1 within.2
     (subst (λ (l : List ℕ). Contains (found_item v.parameters v.rows x) (record { item = x.item; bundle = s.bundle; label = l })) labelled
     (contains-mapped (found_at v.parameters v.rows x) (filter (λ u. has_roots (bin_in v.rows x.position u) x.tag) (range_with_len 0 (length (row_at v.rows (x.position / 819))))) s.bundle
     (contains-filtered (λ u. has_roots (bin_in v.rows x.position u) x.tag) 0 (length (row_at v.rows (x.position / 819))) s.bundle (omega arith) (let inside = s.within in omega arith) (roots-there bin x.tag h))))
@@ -197,18 +197,18 @@ found-in_bundle v placed x label sound within known s =
     labelled =
         label-there v.parameters bin x.tag (sound.apart (x.position / 819) s.bundle (x.position % 819)) h (sound.labelled h.member.tag h.member.label told) ∙ label-is
 
-pub member-found : (v : Version) (placed : List Placed) (x : Placed) (label : List ℕ)
-    → IsSound v → Contains placed x → Contains (positions_of v.parameters.rows x.tag) x.position → fin.get v.labels x.tag ≡ Some label
-    → (u : ℕ) × Contains (found v.parameters v.rows placed) (record { item = x.item; bundle = u; label = label })
-member-found v placed x label sound within own known =
+pub member-found : (v : Version) (placed_tags : List Placed) (x : Placed) (label : List ℕ)
+    → IsSound v → Contains placed_tags x → Contains (positions_of v.parameters.rows x.tag) x.position → fin.get v.labels x.tag ≡ Some label
+    → (u : ℕ) × Contains (found v.parameters v.rows placed_tags) (record { item = x.item; bundle = u; label = label })
+member-found v placed_tags x label sound within own known =
     let once = sound.present x.tag label known x.position own in
     let s = standing-bundle (row_at v.rows (x.position / 819)) (x.position % 819) x.tag (omega (arith, once)) in
-    (s.bundle, found-in_bundle v placed x label sound within known s)
+    (s.bundle, found-in_bundle v placed_tags x label sound within known s)
 
 -- ---- items are found
 
-placed-at : (tags : List (List ℕ)) (places : List ℕ) (i : ℕ) → i < length tags → Contains (placed tags places) (placed_item tags places i)
-unfolding placed
+placed-at : (tags : List (List ℕ)) (places : List ℕ) (i : ℕ) → i < length tags → Contains (placed_tags tags places) (placed_item tags places i)
+unfolding placed_tags
 placed-at tags places i lt =
     (i, omega (arith, lt, length-map-range_with_len (placed_item tags places) 0 (length tags)), get_or-map-range_with_len (placed_item tags places) 0 (length tags) i i (placed_item tags places i) lt (omega arith))
 
@@ -225,7 +225,7 @@ pub item-found : (v : Version) (seed : List ℕ) (items : List (List ℕ)) (plac
 item-found v seed items places passed sound bytes placement i label lt known =
     let tags = map tag_of items in
     let within : i < length (map tag_of items) = omega (arith, lt, length-map items tag_of) in
-    let h = member-found v (placed tags places) (placed_item tags places i) label sound (placed-at tags places i within) (placed-own v.parameters.rows tags places i placement within)
+    let h = member-found v (placed_tags tags places) (placed_item tags places i) label sound (placed-at tags places i within) (placed-own v.parameters.rows tags places i placement within)
     (ap (λ (t : List ℕ). fin.get v.labels t) (tag-at items i lt) ∙ known) in
     (h.0, subst (λ (fs : List Found). Contains fs (record { item = i; bundle = h.0; label = label })) (sym (opened-found v seed tags places passed sound bytes (tags-bytes items) placement)) h.1)
 

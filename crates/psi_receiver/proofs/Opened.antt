@@ -16,7 +16,7 @@ use Rattle.query_codec.specs.Ciphertexts.{ciphertext_in, ciphertexts_in}
 use Rattle.query_codec.specs.Replies.{row_count, reply_counts, reply_ciphertexts}
 use Rattle.query_codec.proofs.Pieces.{length-pieces}
 use Rattle.psi_bundle.specs.Planes.{planes_of_bundle}
-use Rattle.psi_receiver.specs.Openings.{Reply, opened_value, opens_in, opened_label, value_in}
+use Rattle.psi_receiver.specs.Openings.{OpenedReply, opened_value, opens_in, opened_label, value_in}
 use Rattle.psi_receiver.proofs.Steps.{range-more}
 
 -- one number more
@@ -53,7 +53,7 @@ plane-of : (planes own : List (List ℕ)) (n size j : ℕ) → own ≡ take size
 plane-of planes own n size j e lt = ap (λ (xs : List (List ℕ)). get_or xs j []) e ∙ get_or-take size (drop (n * size) planes) j [] lt ∙ get_or-drop (n * size) planes j []
 
 -- the bundle of an item opens where its root plane says so
-pub opens-told : (reply : Reply) (position u : ℕ) (own : List (List ℕ)) (root : List ℕ) (n bin : ℕ) (b : Bool)
+pub opens-told : (reply : OpenedReply) (position u : ℕ) (own : List (List ℕ)) (root : List ℕ) (n bin : ℕ) (b : Bool)
     → n ≡ sum (take (position / 819) reply.counts) + u → own ≡ take (planes_of_bundle reply.parameters) (drop (n * planes_of_bundle reply.parameters) reply.planes)
     → root ≡ get_or own 0 [] → bin ≡ position % 819 → b ≡ list_all (λ part. nat_eq (value_in root bin part) 0) parts → opens_in reply position u ≡ b
 unfolding opens_in opened_value
@@ -65,7 +65,7 @@ opens-told reply position u own root n bin b number own-is root-is bin-is told =
     ∙ ap (λ (k : ℕ). get_or reply.planes (k * planes_of_bundle reply.parameters + 0) []) number))
 
 -- and its label is that of the planes behind it
-pub label-told : (reply : Reply) (position u : ℕ) (own units : List (List ℕ)) (n bin : ℕ) (label : List ℕ)
+pub label-told : (reply : OpenedReply) (position u : ℕ) (own units : List (List ℕ)) (n bin : ℕ) (label : List ℕ)
     → n ≡ sum (take (position / 819) reply.counts) + u → own ≡ take (planes_of_bundle reply.parameters) (drop (n * planes_of_bundle reply.parameters) reply.planes)
     → length own ≡ planes_of_bundle reply.parameters → units ≡ drop 1 own → bin ≡ position % 819 → label ≡ flat_map (unit_bytes bin) units → label ≡ opened_label reply position u
 unfolding opened_label opened_value

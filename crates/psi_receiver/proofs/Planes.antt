@@ -6,11 +6,11 @@ use Rattle.std.proofs.lemmas.List.Folds.{flat_map-map}
 use Rattle.std.proofs.lemmas.Simd.{map-map}
 use Rattle.psi_residue.specs.Parameters.{Parameters}
 use Rattle.query_codec.specs.Ciphertexts.{AreBelow, ciphertext_in, ciphertexts_in}
-use Rattle.query_codec.specs.Replies.{IsReply, IsReplyHead, planes_of, reply_ciphertext, reply_ciphertexts, reply_counts, reply_head}
+use Rattle.query_codec.specs.Replies.{IsReply, IsReplyHead, reply_planes, reply_ciphertext, reply_ciphertexts, reply_counts, reply_head}
 use Rattle.query_codec.proofs.Residues.{AreBelow-joined}
 use Rattle.psi_receiver.specs.declared.found.Found.{Found}
 use Rattle.psi_receiver.specs.declared.placement.Placed.{Placed}
-use Rattle.psi_receiver.specs.Openings.{IsOpenedPlane, Reply, opened, opened_item, opened_slots}
+use Rattle.psi_receiver.specs.Openings.{IsOpenedPlane, OpenedReply, opened, opened_item, opened_slots}
 
 -- the slots of n planes from number a on, and that their residues are below their moduli
 record AreOpenedPlanes (p : Parameters) (key : List ℤ) (body : List ℕ) (a n : ℕ) (planes : List (List ℕ)) : Type 0 where
@@ -38,17 +38,17 @@ each-opened {E} p key body a (suc n) (r ∷ rs) (y ∷ ys) all e =
     }
 
 -- of all planes: they are those of the reply's ciphertexts
-pub lists-opened : {E : Type 0} (p : Parameters) (key : List ℤ) (body : List ℕ) (n : ℕ) (cs : List ℕ) (rs : List (Result (List ℕ) E)) (ys : List (List ℕ)) → n ≡ planes_of p (reply_counts p body) → cs ≡ range_with_len 0 n
+pub lists-opened : {E : Type 0} (p : Parameters) (key : List ℤ) (body : List ℕ) (n : ℕ) (cs : List ℕ) (rs : List (Result (List ℕ) E)) (ys : List (List ℕ)) → n ≡ reply_planes p (reply_counts p body) → cs ≡ range_with_len 0 n
     → AllZip (λ c r. IfOk r (IsOpenedPlane p key body c)) cs rs → rs ≡ map Ok ys → ys ≡ map (opened_slots key) (reply_ciphertexts p body)
 unfolding reply_ciphertexts ciphertexts_in
 lists-opened {E} p key body n cs rs ys number from all e =
     let all_n = subst (λ (xs : List ℕ). AllZip (λ c r. IfOk r (IsOpenedPlane p key body c)) xs rs) from all in
     (each-opened p key body 0 n rs ys all_n e).slots
     ∙ ap (λ (k : ℕ). map (λ c. opened_slots key (reply_ciphertext p body c)) (range_with_len 0 k)) number
-    ∙ sym (map-map (opened_slots key) (ciphertext_in (drop (reply_head p) body)) (range_with_len 0 (planes_of p (reply_counts p body))))
+    ∙ sym (map-map (opened_slots key) (ciphertext_in (drop (reply_head p) body)) (range_with_len 0 (reply_planes p (reply_counts p body))))
 
 -- and the body is a reply
-pub IsReply-opened : {E : Type 0} (p : Parameters) (key : List ℤ) (body : List ℕ) (n : ℕ) (cs : List ℕ) (rs : List (Result (List ℕ) E)) (ys : List (List ℕ)) → IsReplyHead p body → n ≡ planes_of p (reply_counts p body) → cs ≡ range_with_len 0 n
+pub IsReply-opened : {E : Type 0} (p : Parameters) (key : List ℤ) (body : List ℕ) (n : ℕ) (cs : List ℕ) (rs : List (Result (List ℕ) E)) (ys : List (List ℕ)) → IsReplyHead p body → n ≡ reply_planes p (reply_counts p body) → cs ≡ range_with_len 0 n
     → AllZip (λ c r. IfOk r (IsOpenedPlane p key body c)) cs rs → rs ≡ map Ok ys → IsReply p body
 IsReply-opened {E} p key body n cs rs ys head number from all e =
     let all_n = subst (λ (xs : List ℕ). AllZip (λ c r. IfOk r (IsOpenedPlane p key body c)) xs rs) from all in
@@ -58,7 +58,7 @@ IsReply-opened {E} p key body n cs rs ys head number from all e =
 -- ---- the items
 
 -- what each item opens to, one after another
-pub lists-joined : {V : Type 0} (view : V → List Found) (reply : Reply) (placed : List Placed) (lists : List V) → map view lists ≡ map (opened_item reply) placed → flat_map view lists ≡ opened reply placed
+pub lists-joined : {V : Type 0} (view : V → List Found) (reply : OpenedReply) (placed : List Placed) (lists : List V) → map view lists ≡ map (opened_item reply) placed → flat_map view lists ≡ opened reply placed
 unfolding opened
 lists-joined view reply placed lists e =
     sym (flat_map-map (λ ys. ys) view lists) ∙ ap (flat_map (λ ys. ys)) e ∙ flat_map-map (λ ys. ys) (opened_item reply) placed

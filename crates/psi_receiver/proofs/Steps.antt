@@ -11,9 +11,9 @@ use Rattle.std.proofs.Math.Seq.{drop-cons}
 use Rattle.item_slots.specs.Tags.{parts, slot_value, slot_values}
 use Rattle.psi_receiver.specs.declared.placement.Placed.{Placed}
 use Rattle.psi_receiver.specs.declared.found.Found.{Found}
-use Rattle.psi_receiver.specs.Placements.{placed, placed_item}
+use Rattle.psi_receiver.specs.Placements.{placed_tags, placed_item}
 use Rattle.psi_receiver.specs.Queries.{part_value, bin_value}
-use Rattle.psi_receiver.specs.Openings.{Reply, opens_in, opened_at, opened_item, opened}
+use Rattle.psi_receiver.specs.Openings.{OpenedReply, opens_in, opened_at, opened_item, opened}
 use Rattle.psi_bundle.proofs.BinChanges.{part_at}
 
 pub range-more : (a n : ℕ) → range_with_len a (n + 1) ≡ range_with_len a n ++ (a + n) ∷ []
@@ -24,10 +24,10 @@ range-more a n =
     map-same [] = refl
     map-same (x ∷ xs) = ap (λ (ys : List ℕ). x ∷ ys) (map-same xs)
 
-from_here : (placed : List Placed) (i : ℕ) (x : Placed) → i < length placed → x ≡ get_or placed i x → drop i placed ≡ x ∷ drop (i + 1) placed
-from_here placed i x lt here =
+from_here : (placed_tags : List Placed) (i : ℕ) (x : Placed) → i < length placed_tags → x ≡ get_or placed_tags i x → drop i placed_tags ≡ x ∷ drop (i + 1) placed_tags
+from_here placed_tags i x lt here =
     let step : suc i ≡ i + 1 = omega arith in
-    drop-cons placed i x lt ∙ ap (λ (k : ℕ). get_or placed i x ∷ drop k placed) step ∙ ap (λ (y : Placed). y ∷ drop (i + 1) placed) (sym here)
+    drop-cons placed_tags i x lt ∙ ap (λ (k : ℕ). get_or placed_tags i x ∷ drop k placed_tags) step ∙ ap (λ (y : Placed). y ∷ drop (i + 1) placed_tags) (sym here)
 
 -- ---- what is placed
 
@@ -42,16 +42,16 @@ pub placed_below-more : (tags : List (List ℕ)) (positions : List ℕ) (n : ℕ
 unfolding placed_below
 placed_below-more tags positions n = map-range_with_len_more (placed_item tags positions) 0 n n (omega arith)
 
-pub placed_below-all : (tags : List (List ℕ)) (positions : List ℕ) → placed_below tags positions (length tags) ≡ placed tags positions
-unfolding placed_below placed
+pub placed_below-all : (tags : List (List ℕ)) (positions : List ℕ) → placed_below tags positions (length tags) ≡ placed_tags tags positions
+unfolding placed_below placed_tags
 placed_below-all tags positions = refl
 
 -- ---- the bundles of an item
 
-unfoldable pub opened_below : Reply → Placed → ℕ → List Found
+unfoldable pub opened_below : OpenedReply → Placed → ℕ → List Found
 opened_below reply x n = map (opened_at reply x) (filter (opens_in reply x.position) (range_with_len 0 n))
 
-pub opened_below-none : (reply : Reply) (x : Placed) → opened_below reply x 0 ≡ []
+pub opened_below-none : (reply : OpenedReply) (x : Placed) → opened_below reply x 0 ≡ []
 unfolding opened_below
 opened_below-none reply x = refl
 
@@ -77,14 +77,14 @@ filtered-more p f n =
     zero_plus : 0 + n ≡ n
     zero_plus = omega arith
 
-pub opened_below-yes : (reply : Reply) (x : Placed) (n : ℕ) → opens_in reply x.position n ≡ true
+pub opened_below-yes : (reply : OpenedReply) (x : Placed) (n : ℕ) → opens_in reply x.position n ≡ true
     → opened_below reply x (n + 1) ≡ opened_below reply x n ++ opened_at reply x n ∷ []
 unfolding opened_below
 opened_below-yes reply x n opens =
     filtered-more (opens_in reply x.position) (opened_at reply x) n
     ∙ ap (λ (b : Bool). opened_below reply x n ++ map (opened_at reply x) (cond b (n ∷ []) [])) opens
 
-pub opened_below-no : (reply : Reply) (x : Placed) (n : ℕ) → opens_in reply x.position n ≡ false → opened_below reply x (n + 1) ≡ opened_below reply x n
+pub opened_below-no : (reply : OpenedReply) (x : Placed) (n : ℕ) → opens_in reply x.position n ≡ false → opened_below reply x (n + 1) ≡ opened_below reply x n
 unfolding opened_below
 opened_below-no reply x n closed =
     filtered-more (opens_in reply x.position) (opened_at reply x) n
@@ -95,7 +95,7 @@ opened_below-no reply x n closed =
     append-none [] = refl
     append-none (y ∷ ys) = ap (λ (zs : List Found). y ∷ zs) (append-none ys)
 
-pub opened_below-all : (reply : Reply) (x : Placed) → opened_below reply x (slice_index reply.counts (x.position / 819)) ≡ opened_item reply x
+pub opened_below-all : (reply : OpenedReply) (x : Placed) → opened_below reply x (slice_index reply.counts (x.position / 819)) ≡ opened_item reply x
 unfolding opened_below opened_item
 opened_below-all reply x = refl
 
@@ -114,23 +114,23 @@ one_not_zero f j lt other =
 
 -- ---- what is placed at a position
 
-pub bin_value-here : (placed : List Placed) (i position part : ℕ) (x : Placed) → i < length placed → x ≡ get_or placed i x → x.position ≡ position
-    → bin_value (drop i placed) position part ≡ slot_value x.tag part
+pub bin_value-here : (placed_tags : List Placed) (i position part : ℕ) (x : Placed) → i < length placed_tags → x ≡ get_or placed_tags i x → x.position ≡ position
+    → bin_value (drop i placed_tags) position part ≡ slot_value x.tag part
 unfolding bin_value
-bin_value-here placed i position part x lt here same =
-    ap (λ (xs : List Placed). part_value (find (λ y. nat_eq y.position position) xs) part) (from_here placed i x lt here)
-    ∙ ap (λ (b : Bool). part_value (cond b (Some x) (find (λ y. nat_eq y.position position) (drop (i + 1) placed))) part) (eq-eqb x.position position same)
+bin_value-here placed_tags i position part x lt here same =
+    ap (λ (xs : List Placed). part_value (find (λ y. nat_eq y.position position) xs) part) (from_here placed_tags i x lt here)
+    ∙ ap (λ (b : Bool). part_value (cond b (Some x) (find (λ y. nat_eq y.position position) (drop (i + 1) placed_tags))) part) (eq-eqb x.position position same)
 
-pub bin_value-next : (placed : List Placed) (i position part : ℕ) (x : Placed) → i < length placed → x ≡ get_or placed i x → (x.position ≡ position → ⊥)
-    → bin_value (drop i placed) position part ≡ bin_value (drop (i + 1) placed) position part
+pub bin_value-next : (placed_tags : List Placed) (i position part : ℕ) (x : Placed) → i < length placed_tags → x ≡ get_or placed_tags i x → (x.position ≡ position → ⊥)
+    → bin_value (drop i placed_tags) position part ≡ bin_value (drop (i + 1) placed_tags) position part
 unfolding bin_value
-bin_value-next placed i position part x lt here other =
-    ap (λ (xs : List Placed). part_value (find (λ y. nat_eq y.position position) xs) part) (from_here placed i x lt here)
-    ∙ ap (λ (b : Bool). part_value (cond b (Some x) (find (λ y. nat_eq y.position position) (drop (i + 1) placed))) part) (ne_eqb x.position position other)
+bin_value-next placed_tags i position part x lt here other =
+    ap (λ (xs : List Placed). part_value (find (λ y. nat_eq y.position position) xs) part) (from_here placed_tags i x lt here)
+    ∙ ap (λ (b : Bool). part_value (cond b (Some x) (find (λ y. nat_eq y.position position) (drop (i + 1) placed_tags))) part) (ne_eqb x.position position other)
 
-pub bin_value-end : (placed : List Placed) (i position part : ℕ) → length placed ≤ i → bin_value (drop i placed) position part ≡ 65536
+pub bin_value-end : (placed_tags : List Placed) (i position part : ℕ) → length placed_tags ≤ i → bin_value (drop i placed_tags) position part ≡ 65536
 unfolding bin_value
-bin_value-end placed i position part le = ap (λ (xs : List Placed). part_value (find (λ y. nat_eq y.position position) xs) part) (drop_all i placed le)
+bin_value-end placed_tags i position part le = ap (λ (xs : List Placed). part_value (find (λ y. nat_eq y.position position) xs) part) (drop_all i placed_tags le)
 
 slot_values-at : (tag : List ℕ) (part : ℕ) → part < 5 → get_or (slot_values tag) part 0 ≡ slot_value tag part
 slot_values-at tag part lt = get_or-map (slot_value tag) parts part 0 0 lt ∙ ap (slot_value tag) (part_at part lt)
@@ -138,10 +138,10 @@ slot_values-at tag part lt = get_or-map (slot_value tag) parts part 0 0 lt ∙ a
 pub slot_value-told : (tag values : List ℕ) (part x : ℕ) → values ≡ slot_values tag → part < 5 → x ≡ get_or values part 0 → x ≡ slot_value tag part
 slot_value-told tag values part x same lt here = here ∙ ap (λ (xs : List ℕ). get_or xs part 0) same ∙ slot_values-at tag part lt
 
-pub opened-more : (reply : Reply) (placed : List Placed) (i : ℕ) (x : Placed) → i < length placed → x ≡ get_or placed i x
-    → opened reply (take (i + 1) placed) ≡ opened reply (take i placed) ++ opened_item reply x
+pub opened-more : (reply : OpenedReply) (placed_tags : List Placed) (i : ℕ) (x : Placed) → i < length placed_tags → x ≡ get_or placed_tags i x
+    → opened reply (take (i + 1) placed_tags) ≡ opened reply (take i placed_tags) ++ opened_item reply x
 unfolding opened
-opened-more reply placed i x lt here =
-    ap (flat_map (opened_item reply)) (take_more placed i x lt ∙ ap (λ (y : Placed). take i placed ++ y ∷ []) (sym here))
-    ∙ flat_map-append (opened_item reply) (take i placed) (x ∷ [])
-    ∙ ap (λ (xs : List Found). flat_map (opened_item reply) (take i placed) ++ xs) (append-nil (opened_item reply x))
+opened-more reply placed_tags i x lt here =
+    ap (flat_map (opened_item reply)) (take_more placed_tags i x lt ∙ ap (λ (y : Placed). take i placed_tags ++ y ∷ []) (sym here))
+    ∙ flat_map-append (opened_item reply) (take i placed_tags) (x ∷ [])
+    ∙ ap (λ (xs : List Found). flat_map (opened_item reply) (take i placed_tags) ++ xs) (append-nil (opened_item reply x))

@@ -16,7 +16,7 @@ use Rattle.bfv_core.specs.EncryptedLists.{encrypted}
 use Rattle.query_codec.specs.Ciphertexts.{ciphertext_bytes, ciphertexts_bytes}
 use Rattle.query_codec.proofs.QueryBodies.{query_body-is}
 use Rattle.psi_receiver.specs.declared.placement.Placed.{Placed}
-use Rattle.psi_receiver.specs.Queries.{bin_value, powers_of, query_ciphertext, query_ciphertexts, query_of, query_value, row_values}
+use Rattle.psi_receiver.specs.Queries.{bin_value, powers_of, query_ciphertext, encrypted_powers, query_of, query_value, row_values}
 use Rattle.psi_receiver.proofs.Steps.{bin_value-here, bin_value-next, bin_value-end}
 
 -- ---- one tag
@@ -133,8 +133,8 @@ map-same f g a zero h = λ i. []
 map-same f g a (suc n) h = λ i. h a (omega arith) (omega arith) i ∷ map-same f g (a + 1) n (λ k low high. h k (omega arith) (omega arith)) i
 
 pub ciphertexts-made : (p : Parameters) (seed : List ℕ) (placed : List Placed) (values : List (List ℕ)) (capacity n : ℕ) → 1 ≤ p.capacity → capacity ≡ p.capacity → values ≡ map (row_values placed) (range_with_len 0 p.rows) → n ≡ p.rows * p.capacity
-    → map (λ c. encrypted seed c (packed_list (powers_of (get_or values (c / capacity) []) (c % capacity + 1)))) (range_with_len 0 n) ≡ query_ciphertexts p seed placed
-unfolding query_ciphertexts query_ciphertext
+    → map (λ c. encrypted seed c (packed_list (powers_of (get_or values (c / capacity) []) (c % capacity + 1)))) (range_with_len 0 n) ≡ encrypted_powers p seed placed
+unfolding encrypted_powers query_ciphertext
 ciphertexts-made p seed placed values capacity n some same are number =
     (λ i. map (λ c. encrypted seed c (packed_list (powers_of (get_or values (c / same i) []) (c % same i + 1)))) (range_with_len 0 (number i)))
     ∙ map-same (λ c. encrypted seed c (packed_list (powers_of (get_or values (c / p.capacity) []) (c % p.capacity + 1)))) (query_ciphertext p.capacity seed placed) 0 (p.rows * p.capacity)
@@ -149,7 +149,7 @@ ciphertexts-made p seed placed values capacity n some same are number =
 pub bytes-made : {V : Type 0} (view : V → List ℕ) (p : Parameters) (seed : List ℕ) (placed : List Placed) (values : List (List ℕ)) (capacity n : ℕ) (pieces : List V)
     → 1 ≤ p.capacity → capacity ≡ p.capacity → values ≡ map (row_values placed) (range_with_len 0 p.rows) → n ≡ p.rows * p.capacity
     → map view pieces ≡ map (λ c. ciphertext_bytes (encrypted seed c (packed_list (powers_of (get_or values (c / capacity) []) (c % capacity + 1))))) (range_with_len 0 n)
-    → flat_map view pieces ≡ ciphertexts_bytes (query_ciphertexts p seed placed)
+    → flat_map view pieces ≡ ciphertexts_bytes (encrypted_powers p seed placed)
 unfolding ciphertexts_bytes
 bytes-made view p seed placed values capacity n pieces some same are number told =
     let made : ℕ → List (List ℕ) = λ c. encrypted seed c (packed_list (powers_of (get_or values (c / capacity) []) (c % capacity + 1))) in
@@ -160,8 +160,8 @@ bytes-made view p seed placed values capacity n pieces some same are number told
     ∙ ap (flat_map ciphertext_bytes) (ciphertexts-made p seed placed values capacity n some same are number)
 
 -- and behind the parameters they are the query's body
-pub pieces-body : (p : Parameters) (seed : List ℕ) (placed : List Placed) (text body : List ℕ) → text ≡ ciphertexts_bytes (query_ciphertexts p seed placed) → body ≡ parameter_bytes p ++ text → body ≡ query_of p seed placed
-pieces-body p seed placed text body told written = written ∙ ap (λ (ys : List ℕ). parameter_bytes p ++ ys) told ∙ query_body-is p (query_ciphertexts p seed placed)
+pub pieces-body : (p : Parameters) (seed : List ℕ) (placed : List Placed) (text body : List ℕ) → text ≡ ciphertexts_bytes (encrypted_powers p seed placed) → body ≡ parameter_bytes p ++ text → body ≡ query_of p seed placed
+pieces-body p seed placed text body told written = written ∙ ap (λ (ys : List ℕ). parameter_bytes p ++ ys) told ∙ query_body-is p (encrypted_powers p seed placed)
 
 -- results that are all there show the values
 pub all-shown : {X T B E : Type 0} (f : X → B) (view : T → B) (xs : List X) (rs : List (Result T E)) (ys : List T) → AllZip (λ x r. IfOk r (λ y. view y ≡ f x)) xs rs → rs ≡ map Ok ys → map view ys ≡ map f xs

@@ -19,13 +19,13 @@ unfoldable pub has_roots : List Member → List ℕ → Bool
 has_roots bin tag = list_all (λ part. list_any (nat_eq (slot_value tag part)) (roots_of bin part)) parts
 
 -- the label of a member, if there is one
-abbrev pub label_of : Option Member → List ℕ
-label_of None = []
-label_of (Some m) = m.label
+abbrev pub label_of_member : Option Member → List ℕ
+label_of_member None = []
+label_of_member (Some m) = m.label
 
 -- the label of the member that has the tag's slot value of a part
 abbrev pub root_label : List Member → List ℕ → ℕ → List ℕ
-root_label bin tag part = label_of (find (λ m. nat_eq (slot_value tag part) (slot_value m.tag part)) bin)
+root_label bin tag part = label_of_member (find (λ m. nat_eq (slot_value tag part) (slot_value m.tag part)) bin)
 
 -- the label there: the 16-bit number 5·unit + part from the member that has the root of the part
 unfoldable pub found_label : Parameters → List Member → (tag : List ℕ) → List ℕ

@@ -17,14 +17,14 @@ use Rattle.psi_receiver.specs.declared.found.Found.{Found}
 use Rattle.psi_receiver.specs.Placements.{ArePlaced}
 
 -- An opened reply: its parameters, the bundles of each row, and the slots of what each ciphertext opens to, by row, bundle and plane.
-pub record Reply : Type 0 where
+pub record OpenedReply : Type 0 where
   pub parameters : Parameters
   pub counts : List ℕ
   pub planes : List (List ℕ)
 
 -- the number of one plane of bundle u of a row
-abbrev pub number_of : Reply → (row u plane : ℕ) → ℕ
-number_of reply row u plane = (sum (take row reply.counts) + u) * planes_of_bundle reply.parameters + plane
+abbrev pub ciphertext_number : OpenedReply → (row u plane : ℕ) → ℕ
+ciphertext_number reply row u plane = (sum (take row reply.counts) + u) * planes_of_bundle reply.parameters + plane
 
 -- the value of one part of a bin among a plane's slots
 abbrev pub value_in : (slots : List ℕ) → (bin part : ℕ) → ℕ
@@ -35,29 +35,29 @@ abbrev pub is_zero_in : (slots : List ℕ) → (bin : ℕ) → Bool
 is_zero_in slots bin = list_all (λ part. nat_eq (value_in slots bin part) 0) parts
 
 -- the value that a part of a bin opens to, in one plane of bundle u of the bin's row: position p is bin p % 819 of row p / 819
-unfoldable pub opened_value : Reply → (position u plane part : ℕ) → ℕ
+unfoldable pub opened_value : OpenedReply → (position u plane part : ℕ) → ℕ
 opened_value reply position u plane part =
-    value_in (slice_index_or reply.planes (number_of reply (position / bins_of_row) u plane) []) (position % bins_of_row) part
+    value_in (slice_index_or reply.planes (ciphertext_number reply (position / bins_of_row) u plane) []) (position % bins_of_row) part
 
 -- the five slots of the bin are 0 in the root plane of bundle u
-unfoldable pub opens_in : Reply → (position u : ℕ) → Bool
+unfoldable pub opens_in : OpenedReply → (position u : ℕ) → Bool
 opens_in reply position u = list_all (λ part. nat_eq (opened_value reply position u 0 part) 0) parts
 
 -- the label there: 16 bits from each part of each unit
-unfoldable pub opened_label : Reply → (position u : ℕ) → List ℕ
+unfoldable pub opened_label : OpenedReply → (position u : ℕ) → List ℕ
 opened_label reply position u =
     flat_map (λ unit. flat_map (λ part. bytes_high_first 2 (opened_value reply position u (unit + 1) part % 65536)) parts) (range_with_len 0 reply.parameters.units)
 
 -- an item in one bundle
-abbrev pub opened_at : Reply → Placed → ℕ → Found
+abbrev pub opened_at : OpenedReply → Placed → ℕ → Found
 opened_at reply x u = record { item = x.item; bundle = u; label = opened_label reply x.position u }
 
 -- an item in each bundle of its row in which it opens, in their order
-unfoldable pub opened_item : Reply → Placed → List Found
+unfoldable pub opened_item : OpenedReply → Placed → List Found
 opened_item reply x = map (opened_at reply x) (filter (opens_in reply x.position) (range_with_len 0 (slice_index reply.counts (x.position / bins_of_row))))
 
 -- by item, then by bundle
-unfoldable pub opened : Reply → List Placed → List Found
+unfoldable pub opened : OpenedReply → List Placed → List Found
 opened reply placed = flat_map (opened_item reply) placed
 
 -- the slots of what a ciphertext opens to under a key
@@ -70,9 +70,9 @@ pub record IsOpenedPlane (p : Parameters) (key : List ℤ) (body : List ℕ) (c 
   pub below : AreBelow (drop (reply_head p) body) (4 * ring_degree * c) (4 * ring_degree * (c + 1))
 
 -- a reply body, read under the parameters and opened by the key of a seed
-abbrev pub reply_of : Parameters → (seed body : List ℕ) → Reply
-reply_of p seed body = record { parameters = p; counts = reply_counts p body; planes = map (opened_slots (key_of_seed seed)) (reply_ciphertexts p body) }
+abbrev pub opened_reply : Parameters → (seed body : List ℕ) → OpenedReply
+opened_reply p seed body = record { parameters = p; counts = reply_counts p body; planes = map (opened_slots (key_of_seed seed)) (reply_ciphertexts p body) }
 
 -- what a reply body opens to for tags
 abbrev pub AreOpened : Parameters → (seed : List ℕ) → (tags : List (List ℕ)) → (reply : List ℕ) → List Found → Type 0
-AreOpened p seed tags reply found = (placed : List Placed) × ArePlaced p.rows tags placed × (found ≡ opened (reply_of p seed reply) placed)
+AreOpened p seed tags reply found = (placed : List Placed) × ArePlaced p.rows tags placed × (found ≡ opened (opened_reply p seed reply) placed)

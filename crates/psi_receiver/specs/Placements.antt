@@ -11,8 +11,8 @@ abbrev pub placed_item : (tags : List (List ℕ)) → (places : List ℕ) → �
 placed_item tags places i = record { item = i; tag = slice_index_or tags i []; position = slice_index places i }
 
 -- the tags with their positions, one each
-unfoldable pub placed : (tags : List (List ℕ)) → (places : List ℕ) → List Placed
-placed tags places = map (placed_item tags places) (range_with_len 0 (length tags))
+unfoldable pub placed_tags : (tags : List (List ℕ)) → (places : List ℕ) → List Placed
+placed_tags tags places = map (placed_item tags places) (range_with_len 0 (length tags))
 
 -- the positions of tags, a set each
 abbrev pub position_sets : (rows : ℕ) → List (List ℕ) → List (List ℕ)
@@ -20,4 +20,4 @@ position_sets rows tags = map (positions_of rows) tags
 
 -- the tags at the positions of their first placement
 abbrev pub ArePlaced : (rows : ℕ) → (tags : List (List ℕ)) → List Placed → Type 0
-ArePlaced rows tags xs = (places : List ℕ) × IsFirstPlacement (position_sets rows tags) places × (xs ≡ placed tags places)
+ArePlaced rows tags xs = (places : List ℕ) × IsFirstPlacement (position_sets rows tags) places × (xs ≡ placed_tags tags places)

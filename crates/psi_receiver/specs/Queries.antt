@@ -43,12 +43,12 @@ unfoldable pub query_ciphertext : (capacity : ℕ) → (seed : List ℕ) → Lis
 query_ciphertext capacity seed placed c = encrypted seed c (packed_list (powers_of (row_values placed (c / capacity)) (c % capacity + 1)))
 
 -- the ciphertexts of the query
-unfoldable pub query_ciphertexts : Parameters → (seed : List ℕ) → List Placed → List (List (List ℕ))
-query_ciphertexts p seed placed = map (query_ciphertext p.capacity seed placed) (range_with_len 0 (p.rows * p.capacity))
+unfoldable pub encrypted_powers : Parameters → (seed : List ℕ) → List Placed → List (List (List ℕ))
+encrypted_powers p seed placed = map (query_ciphertext p.capacity seed placed) (range_with_len 0 (p.rows * p.capacity))
 
 -- the query's body
 abbrev pub query_of : Parameters → (seed : List ℕ) → List Placed → List ℕ
-query_of p seed placed = query_body p (query_ciphertexts p seed placed)
+query_of p seed placed = query_body p (encrypted_powers p seed placed)
 
 -- a body is the query of tags
 abbrev pub IsQueryOf : Parameters → (seed : List ℕ) → (tags : List (List ℕ)) → (body : List ℕ) → Type 0

@@ -5,7 +5,7 @@ ghost use Rattle.std.specs.List.{All, flat_map, list_all, position, sum};
 ghost use Rattle.item_slots.specs.Tags.{bins_of_row, parts, tag_of};
 ghost use Rattle.noise_ledger.specs.Verdicts.{parameters_of, ArePassed};
 ghost use Rattle.psi_bundle.specs.Planes.{planes_of_bundle};
-ghost use Rattle.query_codec.specs.Replies.{IsReply, IsReplyHead, planes_of, reply_ciphertexts, reply_counts, reply_fault};
+ghost use Rattle.query_codec.specs.Replies.{IsReply, IsReplyHead, reply_planes, reply_ciphertexts, reply_counts, reply_fault};
 ghost use Rattle.psi_receiver.specs.Faults.{is_long, IsOpenFault, IsUnread};
 ghost use Rattle.psi_receiver.specs.Openings.{AreOpened, IsOpenedPlane, opened, opened_item, opened_slots, value_in};
 
@@ -110,12 +110,12 @@ fn open_ciphertexts<R: Threads + Sync>(
 ) -> Result<Vec<Plane>, CodecFault>
     requires passed { ArePassed (parameters_of params.now) }
     requires head { IsReplyHead (parameters_of params.now) reply.now }
-    requires number { number ≡ planes_of (parameters_of params.now) (reply_counts (parameters_of params.now) reply.now) }
+    requires number { number ≡ reply_planes (parameters_of params.now) (reply_counts (parameters_of params.now) reply.now) }
     ensures opened { IfOk result (λ planes. planes.items ≡ map (opened_slots key.now) (reply_ciphertexts (parameters_of params.now) reply.now)) }
     ensures reply { OnOk result (IsReply (parameters_of params.now) reply.now) }
 {
     let open = |c: usize| -> Result<Plane, CodecFault>
-        requires { (c < planes_of (parameters_of params.now) (reply_counts (parameters_of params.now) reply.now)) × ArePassed (parameters_of params.now) × IsReplyHead (parameters_of params.now) reply.now }
+        requires { (c < reply_planes (parameters_of params.now) (reply_counts (parameters_of params.now) reply.now)) × ArePassed (parameters_of params.now) × IsReplyHead (parameters_of params.now) reply.now }
         ensures { IfOk result (IsOpenedPlane (parameters_of params.entry.now) key.entry.now reply.entry.now c) }
     { open_ciphertext(alloc, params, key, reply, c) };
     let planes = map_in_turns(rt, alloc, number, &open)?;
@@ -132,7 +132,7 @@ fn open_ciphertext(
 ) -> Result<Plane, CodecFault>
     requires passed { ArePassed (parameters_of params.now) }
     requires head { IsReplyHead (parameters_of params.now) reply.now }
-    requires within { c < planes_of (parameters_of params.now) (reply_counts (parameters_of params.now) reply.now) }
+    requires within { c < reply_planes (parameters_of params.now) (reply_counts (parameters_of params.now) reply.now) }
     ensures { IfOk result (IsOpenedPlane (parameters_of params.now) key.now reply.now c) }
 {
     let ct = read_reply_ciphertext(alloc, params, reply, c)?;

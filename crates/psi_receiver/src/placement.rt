@@ -4,7 +4,7 @@ ghost use Rattle.std.specs.List.{All};
 ghost use Rattle.item_slots.specs.Tags.{bins_of_row};
 ghost use Rattle.cuckoo_place.specs.Placements.{ForCrowded};
 ghost use Rattle.psi_receiver.specs.Faults.{AreTooMany};
-ghost use Rattle.psi_receiver.specs.Placements.{ArePlaced, placed, position_sets};
+ghost use Rattle.psi_receiver.specs.Placements.{ArePlaced, placed_tags, position_sets};
 
 use crate::slots::BINS;
 use cuckoo_place::{Unplaced, place};
@@ -27,8 +27,8 @@ pub fn place_tags(alloc: Global, tags: &[Tag], rows: u8) -> Result<Vec<Placed>, 
     requires some { 1 ≤ rows }
     requires few { rows ≤ 4 }
     requires numbered { length tags.now < 2 ^ 32 }
-    ensures placed { IfOk result (λ placed. ArePlaced rows tags.now placed.items) }
-    ensures within { IfOk result (λ placed. All (λ x. x.position < bins_of_row * rows) placed.items) }
+    ensures placed { IfOk result (λ placed_tags. ArePlaced rows tags.now placed_tags.items) }
+    ensures within { IfOk result (λ placed_tags. All (λ x. x.position < bins_of_row * rows) placed_tags.items) }
     ensures crowded { IfErr result (ForCrowded (AreTooMany rows tags.now)) }
 {
     let sets = position_sets(alloc, tags, rows)?;
@@ -49,7 +49,7 @@ fn position_sets(alloc: Global, tags: &[Tag], rows: u8) -> Result<Vec<Positions>
 fn at_places(alloc: Global, tags: &[Tag], places: &[u16]) -> Result<Vec<Placed>, AllocError>
     requires one_each { length places.now ≡ length tags.now }
     requires numbered { length tags.now < 2 ^ 32 }
-    ensures { IfOk result (λ xs. xs.items ≡ placed tags.now places.now) }
+    ensures { IfOk result (λ xs. xs.items ≡ placed_tags tags.now places.now) }
 {
     let mut placed = Vec::with_capacity(alloc, tags.len())?;
     for (item, tag) in tags.iter().enumerate() {

@@ -8,7 +8,7 @@ ghost use Rattle.item_slots.specs.Tags.{bins_of_row, slot_value};
 ghost use Rattle.noise_ledger.specs.Verdicts.{parameters_of, ArePassed};
 ghost use Rattle.bfv_core.specs.EncryptedLists.{encrypted, key_of_seed};
 ghost use Rattle.query_codec.specs.Ciphertexts.{ciphertext_bytes, ciphertexts_bytes};
-ghost use Rattle.psi_receiver.specs.Queries.{powers_of, query_ciphertexts, row_values};
+ghost use Rattle.psi_receiver.specs.Queries.{powers_of, encrypted_powers, row_values};
 
 use crate::placement::Placed;
 use crate::slots::{BINS, PARTS, Slots};
@@ -35,7 +35,7 @@ pub fn encrypt_query<R: Threads + Sync>(
     placed: &[Placed],
 ) -> Result<Vec<Vec<u8>>, AllocError>
     requires { ArePassed (parameters_of params.now) }
-    ensures { IfOk result (λ pieces. flat_map (λ piece. piece.items) pieces.items ≡ ciphertexts_bytes (query_ciphertexts (parameters_of params.now) seed.now placed.now)) }
+    ensures { IfOk result (λ pieces. flat_map (λ piece. piece.items) pieces.items ≡ ciphertexts_bytes (encrypted_powers (parameters_of params.now) seed.now placed.now)) }
 {
     let key = SecretKey::of(alloc, seed)?;
     let values = values_of_rows(alloc, placed, params.rows)?;

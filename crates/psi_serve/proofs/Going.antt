@@ -21,7 +21,7 @@ use Rattle.psi_frames.specs.Rounds.{AreRounds, IsRound, is_full, request_rounds}
 use Rattle.psi_frames.specs.Served.{IsOneLane, IsServed, Sent, exchanges, requests_of, text_of}
 use Rattle.psi_frames.proofs.Each.{each-append}
 use Rattle.psi_frames.specs.Feeds.{Feeding, HasFed, IsCut, table_of}
-use Rattle.psi_frames.specs.RoundSizes.{Counts, Sizes}
+use Rattle.psi_frames.specs.RoundSizes.{IsSizeOf, Sizes}
 use Rattle.psi_serve.specs.declared.stop.Stop.{Stop}
 use Rattle.psi_serve.specs.declared.stop.Stop.TheVariants.{BadInput, ReadFault, WriteFault, NoMemory}
 use Rattle.psi_serve.specs.Runs.{AnswersRound, AreFull, BeginWithRounds, HasAnswered, HasAnsweredAll, HasGivenUp, HasGoneOn, HasWaited, IsHalted, IsOpen, LastStops, Line, RoundStops, Stands, StopsAt, Sunk, TakeStops, Takes, frames_of, with_frame}
@@ -219,7 +219,7 @@ module _ (p : Parameters) (old : Sunk) (bytes : List ℕ) (feed feed' : Feeding)
         requests = requests;
         full = full-more stands.rounds round stands.full (open-round line.waiting f stands.open_round) full;
         open_round = subst IsOpen (sym gone.none_waits) open-nil;
-        size = subst (λ (w : List Frame). Counts line'.size w) (sym gone.none_waits) gone.size;
+        size = subst (λ (w : List Frame). IsSizeOf line'.size w) (sym gone.none_waits) gone.size;
         answered = answered-more p (with_frame line f) line' stands.rounds stands.sents old now now' (answered-waits p line round line.size stands.rounds stands.sents old now stands.answered) gone;
       }
 

@@ -10,10 +10,10 @@ use Rattle.psi_frames.specs.declared.request.Request.{Request}
 use Rattle.psi_frames.specs.Served.{IsServed, addressed}
 use Rattle.sender_core.specs.Kept.{Contents, version_of}
 use Rattle.psi_serve.specs.Books.{IsBookOf, journal_of}
-use Rattle.psi_serve.specs.Rounds.{HasAnswered}
+use Rattle.psi_serve.specs.Rounds.{HasAnsweredRound}
 
 module _ {C : Type 0} (p : Parameters) (alone : Bool) (before : Option (Contents C)) (old new : Contents C) (requests : List Request) (replies : List Reply)
-    (there : before ≡ Some old) (of : IfSome before (IsBookOf p)) (has : HasAnswered p alone old new requests replies) where
+    (there : before ≡ Some old) (of : IfSome before (IsBookOf p)) (has : HasAnsweredRound p alone old new requests replies) where
   of_old : IsBookOf p old
   of_old = subst (λ (b : Option (Contents C)). IfSome b (IsBookOf p)) there of
 

@@ -17,7 +17,7 @@ use Rattle.query_codec.specs.Replies.{reply_body}
 use Rattle.psi_frames.specs.declared.reply.Reply.TheVariants as reply
 use Rattle.psi_frames.specs.declared.request.Request.{Request}
 use Rattle.psi_frames.specs.OneLane.{HasByteCode}
-use Rattle.psi_frames.specs.Requests.{code_of, is_repack, journal_full, query_of}
+use Rattle.psi_frames.specs.Requests.{code_of, is_repack, journal_full, asked_ciphertexts}
 use Rattle.psi_frames.specs.Served.{AreServed, Exchange, FollowOn, HasPlaceOrIsFull, HaveOneReplyEach, IsEvaluated, IsFromWithin, IsOneLane, IsRecorded, IsServed, PlacesRise, SameSession, SeesOwn, Sent, StaysFull, address_of_reply, address_of_request, all_places, exchanges, first_place, from_of, journal_limit, place_of, places_in, places_of_round, requests_of, uncoded_of_round}
 use Rattle.psi_frames.proofs.Each.{each-weaker}
 use Rattle.psi_frames.proofs.Following.{before}
@@ -126,7 +126,7 @@ module _ (p : Parameters) (start : Version) (given middle history : List Entry) 
   evaluated-old i d lt x body place told =
       let le : x ≤ length middle = omega (arith, below-old i d lt x place) in
       old.evaluated i d lt x body place told
-      ∙ ap (λ (h : List Entry). reply_body p (replay start h).rows (query_of (slice_index_or es i d).request))
+      ∙ ap (λ (h : List Entry). reply_body p (replay start h).rows (asked_ciphertexts (slice_index_or es i d).request))
       (sym (ap (take x) grown ∙ take-append-le x middle (drop (length middle) history) le))
 
   -- the places of the new ones, among all

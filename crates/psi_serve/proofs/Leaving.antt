@@ -15,7 +15,7 @@ use Rattle.psi_frames.specs.Frames.{AreWholeFrames, Fault, IsFrame, Short, frame
 use Rattle.psi_frames.specs.Rounds.{AreRounds, IsRound, is_full, request_rounds}
 use Rattle.psi_frames.specs.Served.{IsServed, Sent, text_of}
 use Rattle.psi_frames.specs.Feeds.{EndsIn, Feeding, HasFed, IsCut, end_fault, table_of}
-use Rattle.psi_frames.specs.RoundSizes.{Counts as HasCounted}
+use Rattle.psi_frames.specs.RoundSizes.{IsSizeOf as HasCounted}
 use Rattle.psi_bundle.specs.declared.history.Entry.{Entry}
 use Rattle.psi_bundle.specs.Versions.{empty_version}
 use Rattle.psi_frames.proofs.Fronts.{fault-stays}

@@ -5,7 +5,7 @@ use Rattle.std.proofs.Math.Seq.{drop-cons}
 use Rattle.std.proofs.lemmas.List.{drop_all}
 use Rattle.psi_frames.specs.declared.reply.Reply.{Reply}
 use Rattle.psi_frames.specs.declared.request.Request.{Request}
-use Rattle.psi_frames.specs.Frames.{reply_bytes}
+use Rattle.psi_frames.specs.Frames.{reply_frame_bytes}
 use Rattle.psi_frames.specs.Requests.{number_of, session_of}
 use Rattle.psi_frames.specs.Served.{Sent, addressed, text_of}
 use Rattle.psi_serve.specs.declared.texts.Address.{Address}
@@ -15,7 +15,7 @@ use Rattle.psi_serve.specs.Texts.{address_of, sent_to}
 abbrev pub left_text : List Address → List Reply → ℕ → List ℕ
 left_text addresses replies i = text_of (sent_to (drop i addresses) (drop i replies))
 
-next_sent : (addresses : List Address) (replies : List Reply) (a : Address) (r : Reply) → text_of (sent_to (a ∷ addresses) (r ∷ replies)) ≡ reply_bytes a.session a.number r ++ text_of (sent_to addresses replies)
+next_sent : (addresses : List Address) (replies : List Reply) (a : Address) (r : Reply) → text_of (sent_to (a ∷ addresses) (r ∷ replies)) ≡ reply_frame_bytes a.session a.number r ++ text_of (sent_to addresses replies)
 unfolding sent_to
 next_sent addresses replies a r = refl
 
@@ -26,9 +26,9 @@ dropped {X} xs i x d lt here =
 
 pub text-more : (addresses : List Address) (replies : List Reply) (i : ℕ) (a d : Address) (r : Reply) (text whole : List ℕ) → i < length addresses → i < length replies
     → a ≡ slice_index_or addresses i d → r ≡ slice_index_or replies i r → text ++ left_text addresses replies i ≡ whole
-    → (text ++ reply_bytes a.session a.number r) ++ left_text addresses replies (i + 1) ≡ whole
+    → (text ++ reply_frame_bytes a.session a.number r) ++ left_text addresses replies (i + 1) ≡ whole
 text-more addresses replies i a d r text whole la lr ha hr told =
-    append_assoc text (reply_bytes a.session a.number r) (left_text addresses replies (i + 1))
+    append_assoc text (reply_frame_bytes a.session a.number r) (left_text addresses replies (i + 1))
     ∙ ap (λ (t : List ℕ). text ++ t)
     (sym ((λ k. text_of (sent_to (dropped addresses i a d la ha k) (dropped replies i r r lr hr k))) ∙ next_sent (drop (i + 1) addresses) (drop (i + 1) replies) a r))
     ∙ told

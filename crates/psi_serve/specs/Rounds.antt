@@ -20,7 +20,7 @@ module _ {C : Type 0} where
 
   -- One reply for each request; they serve the round from the book's start behind its journal, and the new book goes on from there. Alone:
   -- the replies are those of one lane.
-  pub record HasAnswered (p : Parameters) (alone : Bool) (old new : Contents C) (requests : List Request) (replies : List Reply) : Type 0 where
+  pub record HasAnsweredRound (p : Parameters) (alone : Bool) (old new : Contents C) (requests : List Request) (replies : List Reply) : Type 0 where
     pub served : IsServed p (start_of old) old.journal new.journal (requests ∷ []) (addressed requests replies)
     pub one_lane : alone ≡ true → IsOneLane (exchanges (requests ∷ []) (addressed requests replies))
     pub one_each : length replies ≡ length requests

@@ -15,7 +15,7 @@ use Rattle.psi_frames.specs.Requests.{requests_from}
 use Rattle.psi_frames.specs.Rounds.{AreRounds, IsRound, is_full, request_rounds}
 use Rattle.psi_frames.specs.Served.{IsOneLane, IsServed, Sent, exchanges, requests_of, text_of}
 use Rattle.psi_frames.specs.Feeds.{Feeding, HasFed, IsCut}
-use Rattle.psi_frames.specs.RoundSizes.{Counts as HasCounted, Sizes}
+use Rattle.psi_frames.specs.RoundSizes.{IsSizeOf as HasCounted, Sizes}
 use Rattle.query_pool.specs.declared.round.Served.{Served}
 use Rattle.psi_serve.specs.declared.run.Run.{Run}
 use Rattle.psi_serve.specs.declared.stop.Stop.{Stop}

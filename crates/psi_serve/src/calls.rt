@@ -3,7 +3,7 @@ ghost use Rattle.std.specs.Prelude.{◌≡◌, ◌≤◌, Bool, true, nat_eq, []
 ghost use Rattle.noise_ledger.specs.Verdicts.{ArePassed, parameters_of};
 ghost use Rattle.psi_outside.specs.Ends.{ends};
 ghost use Rattle.psi_serve.specs.Inputs.{IsBad, IsGoodInput};
-ghost use Rattle.psi_serve.specs.Rounds.{HasAnswered, IsAsked};
+ghost use Rattle.psi_serve.specs.Rounds.{HasAnsweredRound, IsAsked};
 ghost use Rattle.psi_serve.specs.Runs.{status_of};
 ghost use Rattle.psi_serve.specs.Serving.{HasServed};
 
@@ -64,7 +64,7 @@ pub fn serve<R: Threads + Wait + Sync, S: Source, K: Sink, G: Gate>(
         requires workers { (1 ≤ shape.workers) × (shape.workers ≤ 8) }
         requires builders { shape.builders ≤ 4 }
         requires asked { IsAsked (parameters_of params.now) book requests.items }
-        ensures { IfOk result (λ round. HasAnswered (parameters_of params.entry.now) (nat_eq shape.workers 1) book round.book requests.items round.replies.items) }
+        ensures { IfOk result (λ round. HasAnsweredRound (parameters_of params.entry.now) (nat_eq shape.workers 1) book round.book requests.items round.replies.items) }
     { run_round(rt, alloc, params, book, requests, shape, gate) };
     let lanes = Lanes::open(alloc, params, shape.workers, round);
     serve_opened(alloc, params, lanes, source, sink)

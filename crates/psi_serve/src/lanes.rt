@@ -2,7 +2,7 @@
 ghost use Rattle.std.specs.Prelude.{◌≡◌, nat_eq, [], IfOk, IfSome};
 ghost use Rattle.noise_ledger.specs.Verdicts.{ArePassed, parameters_of};
 ghost use Rattle.psi_serve.specs.Books.{IsBookOf, journal_of};
-ghost use Rattle.psi_serve.specs.Rounds.{HasAnswered, IsAsked};
+ghost use Rattle.psi_serve.specs.Rounds.{HasAnsweredRound, IsAsked};
 
 use crate::answers::Answers;
 use bundle_cache::Cache;
@@ -46,7 +46,7 @@ impl<F: Fn(Book<Cache>, Vec<Request>) -> Result<Round, AllocError> + Drop> Lanes
 impl<F: Fn(Book<Cache>, Vec<Request>) -> Result<Round, AllocError> + Drop> Answers for Lanes<F> {
     // Whatever round is asked of a book with these parameters, it may be asked, and is answered.
     ghost is_under = { λ s p. ((book : _) (requests : _) → IsAsked p book requests.items → F.pre s.round book requests)
-        × ((book : _) (requests : _) (result : _) → F.post s.round book requests result → IfOk result (λ round. HasAnswered p (nat_eq s.workers 1) book round.book requests.items round.replies.items))
+        × ((book : _) (requests : _) (result : _) → F.post s.round book requests result → IfOk result (λ round. HasAnsweredRound p (nat_eq s.workers 1) book round.book requests.items round.replies.items))
         × IfSome s.book (IsBookOf p) };
 
     ghost journal = { λ s. journal_of s.book };

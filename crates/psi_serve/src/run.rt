@@ -8,7 +8,7 @@ ghost use Rattle.psi_frames.specs.Rounds.{IsRound};
 ghost use Rattle.psi_frames.specs.Feeds.{Feeding, HasFed, end_fault};
 ghost use Rattle.psi_outside.specs.Ends.{ends};
 ghost use Rattle.psi_serve.specs.declared.stop.Stop.TheVariants.{BadInput};
-ghost use Rattle.psi_frames.specs.RoundSizes.{Counts};
+ghost use Rattle.psi_frames.specs.RoundSizes.{IsSizeOf};
 ghost use Rattle.psi_serve.specs.Runs.{HasAnsweredAll, HasGoneOn, IsBadPiece, IsNew, IsOpen, IsStanding, IsStandingAt, LastStops, Leaves, PieceStops, RoundStops, TakeStops, Takes, Stands, StopsAt, Sunk, line_of, sunk};
 
 use crate::answers::Answers;
@@ -98,7 +98,7 @@ impl<A: Answers> Run<A> {
         requires under { A.is_under self.old.answers (parameters_of params.now) }
         requires each { All (IsFrame request_table) (self.old.waiting.items ++ frame ∷ []) }
         requires open_round { IsOpen self.old.waiting.items }
-        requires size { Counts self.old.size self.old.waiting.items }
+        requires size { IsSizeOf self.old.size self.old.waiting.items }
         requires room { self.old.replies + length self.old.waiting.items < 2 ^ 62 }
         ensures takes { OnOk result (Takes (parameters_of params.now) (line_of A.alone A.journal self.old) (line_of A.alone A.journal self.new) frame (sunk (K.written sink.old) (K.flushed sink.old) (K.faults sink.old)) (sunk (K.written sink.new) (K.flushed sink.new) (K.faults sink.new))) }
         ensures stops { IfErr result (TakeStops (parameters_of params.now) (line_of A.alone A.journal self.old) (line_of A.alone A.journal self.new) frame (sunk (K.written sink.old) (K.flushed sink.old) (K.faults sink.old)) (sunk (K.written sink.new) (K.flushed sink.new) (K.faults sink.new))) }

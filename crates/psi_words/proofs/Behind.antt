@@ -9,7 +9,7 @@ use Rattle.psi_words.specs.declared.fault.WordFault.{WordFault}
 use Rattle.psi_words.specs.declared.fault.WordFault.TheVariants.{NoMemory}
 use Rattle.psi_words.specs.Forms.{Form, is_of, read}
 use Rattle.psi_words.specs.Forms.Form.{Number}
-use Rattle.psi_words.specs.Grammar.{KeepsName, Lead, Line, first_wrong, judged_value, lead_forms}
+use Rattle.psi_words.specs.Grammar.{KeepsName, Lead, Words, first_wrong, judged_value, lead_forms}
 use Rattle.psi_words.specs.Leads.{first_wrong_behind, wrong_or}
 
 -- ---- what words give
@@ -32,7 +32,7 @@ given-Err (Some k) given other fault e = (k, refl, cc e)
 -- ---- the first word that is not of its form, and the words that follow
 
 -- behind words of their forms it is among those that follow
-first_wrong-None : (number : ℕ) (forms more : List Form) (words rest : Line) → length forms ≡ length words
+first_wrong-None : (number : ℕ) (forms more : List Form) (words rest : Words) → length forms ≡ length words
     → first_wrong number forms words ≡ None → first_wrong number (forms ++ more) (words ++ rest) ≡ first_wrong (number + length forms) more rest
 first_wrong-None number [] more [] rest same none = ap (λ n. first_wrong n more rest) (omega arith)
 first_wrong-None number [] more (w ∷ words) rest same none = absurd (omega arith)
@@ -47,7 +47,7 @@ first_wrong-None number (f ∷ forms) more (w ∷ words) rest same none =
     ]
 
 -- it stays the first
-first_wrong-Some : (number k : ℕ) (forms more : List Form) (words rest : Line)
+first_wrong-Some : (number k : ℕ) (forms more : List Form) (words rest : Words)
     → first_wrong number forms words ≡ Some k → first_wrong number (forms ++ more) (words ++ rest) ≡ Some k
 first_wrong-Some number k [] more words rest some = cc some
 first_wrong-Some number k (f ∷ forms) more [] rest some = cc some
@@ -58,7 +58,7 @@ first_wrong-Some number k (f ∷ forms) more (w ∷ words) rest some =
     ]
 
 -- the same with DROP before the words
-behind-None : (drop : Option (List ℕ)) (number : ℕ) (forms more : List Form) (words rest : Line) → length forms ≡ length words
+behind-None : (drop : Option (List ℕ)) (number : ℕ) (forms more : List Form) (words rest : Words) → length forms ≡ length words
     → wrong_or drop (first_wrong number forms words) ≡ None
     → wrong_or drop (first_wrong number (forms ++ more) (words ++ rest)) ≡ first_wrong (number + length forms) more rest
 behind-None None number forms more words rest same none = first_wrong-None number forms more words rest same none
@@ -68,7 +68,7 @@ behind-None (Some d) number forms more words rest same none =
       | inr is ↦ cc (rw is at none)
     ]
 
-behind-Some : (drop : Option (List ℕ)) (number k : ℕ) (forms more : List Form) (words rest : Line)
+behind-Some : (drop : Option (List ℕ)) (number k : ℕ) (forms more : List Form) (words rest : Words)
     → wrong_or drop (first_wrong number forms words) ≡ Some k
     → wrong_or drop (first_wrong number (forms ++ more) (words ++ rest)) ≡ Some k
 behind-Some None number k forms more words rest some = first_wrong-Some number k forms more words rest some
@@ -81,12 +81,12 @@ behind-Some (Some d) number k forms more words rest some =
 -- ---- one word after another
 
 -- words that were read are of their forms
-pub record AreRead (lead : Lead) (forms : List Form) (words : Line) : Type 0 where
+pub record AreRead (lead : Lead) (forms : List Form) (words : Words) : Type 0 where
   pub same : length forms ≡ length words
   pub none : first_wrong_behind forms lead words ≡ None
 
 -- words that gave a value were read
-pub AreRead-given : {A : Type 0} (lead : Lead) (forms : List Form) (words : Line) (given x : A) → length forms ≡ length words
+pub AreRead-given : {A : Type 0} (lead : Lead) (forms : List Form) (words : Words) (given x : A) → length forms ≡ length words
     → judged_value (first_wrong_behind forms lead words) given ≡ Ok x → AreRead lead forms words × (x ≡ given)
 AreRead-given lead forms words given x same e =
     let ok = given-Ok (first_wrong_behind forms lead words) given x e in
@@ -101,7 +101,7 @@ read-Ok form number word value x e =
     ]
 
 -- the next word was read too
-pub AreRead-next : {A : Type 0} (lead : Lead) (forms : List Form) (words : Line) (form : Form) (number : ℕ) (word : List ℕ) (value x : A)
+pub AreRead-next : {A : Type 0} (lead : Lead) (forms : List Form) (words : Words) (form : Form) (number : ℕ) (word : List ℕ) (value x : A)
     → AreRead lead forms words → number ≡ length (lead_forms lead) + 1 + length forms → read form number word value ≡ Ok x
     → AreRead lead (forms ++ form ∷ []) (words ++ word ∷ []) × (x ≡ value)
 AreRead-next lead forms words form number word value x are at e =
@@ -116,7 +116,7 @@ AreRead-next lead forms words form number word value x are at e =
     )
 
 -- words of which one was not read give its fault, whatever follows
-pub gives-fault : {A B : Type 0} (lead : Lead) (forms more : List Form) (words rest : Line) (given : A) (other : B) (fault : WordFault)
+pub gives-fault : {A B : Type 0} (lead : Lead) (forms more : List Form) (words rest : Words) (given : A) (other : B) (fault : WordFault)
     → judged_value (first_wrong_behind forms lead words) given ≡ Err fault
     → judged_value (first_wrong_behind (forms ++ more) lead (words ++ rest)) other ≡ Err fault
 gives-fault lead forms more words rest given other fault e =
@@ -124,7 +124,7 @@ gives-fault lead forms more words rest given other fault e =
     rw (behind-Some lead.drop (length (lead_forms lead) + 1) bad.0 forms more words rest bad.1) bad.2
 
 -- behind words that were read a word that was not gives its fault, whatever follows
-pub gives-fault_next : {A B : Type 0} (lead : Lead) (forms more : List Form) (words rest : Line) (form : Form) (number : ℕ) (word : List ℕ) (value : A)
+pub gives-fault_next : {A B : Type 0} (lead : Lead) (forms more : List Form) (words rest : Words) (form : Form) (number : ℕ) (word : List ℕ) (value : A)
     (other : B) (fault : WordFault) → AreRead lead forms words → number ≡ length (lead_forms lead) + 1 + length forms
     → read form number word value ≡ Err fault
     → judged_value (first_wrong_behind (forms ++ form ∷ more) lead (words ++ word ∷ rest)) other ≡ Err fault
@@ -140,7 +140,7 @@ gives-fault_next lead forms more words rest form number word value other fault a
     ]
 
 -- words that were all read give what is given
-pub gives-Ok : {A : Type 0} (lead : Lead) (forms : List Form) (words : Line) (given : A) → AreRead lead forms words
+pub gives-Ok : {A : Type 0} (lead : Lead) (forms : List Form) (words : Words) (given : A) → AreRead lead forms words
     → judged_value (first_wrong_behind forms lead words) given ≡ Ok given
 gives-Ok lead forms words given are = rw are.none refl
 

@@ -25,8 +25,8 @@ abbrev pub is_number : List ℕ → Bool
 is_number word = bytes_eq word (codes "0") || (is_numeral word && not (slice_index word 0 == 48))
 
 -- the number that decimal digits write
-abbrev pub number_of : List ℕ → ℕ
-number_of word = fold (λ number digit. 10 * number + (digit - 48)) 0 word
+abbrev pub written_number : List ℕ → ℕ
+written_number word = fold (λ number digit. 10 * number + (digit - 48)) 0 word
 
 -- the bytes that hexadecimal digits write, two digits a byte, the higher first
 abbrev pub seed_of : List ℕ → List ℕ
@@ -35,7 +35,7 @@ seed_of word = result_unwrap_or (decode_of word) []
 -- a word is of a form
 abbrev pub is_of : Form → List ℕ → Bool
 is_of Known word = true
-is_of (Number low high) word = is_number word && nat_le low (number_of word) && nat_le (number_of word) high
+is_of (Number low high) word = is_number word && nat_le low (written_number word) && nat_le (written_number word) high
 is_of Seed word = length word == 64 && list_all is_hex_digit word
 is_of File word = nat_lt 0 (length word)
 

@@ -2,7 +2,7 @@
 ghost use Rattle.std.specs.Prelude.{◌≡◌, ◌≤◌, ◌<◌, ◌^◌, ◌⊎◌, true, None, Some, Ok, Err, IfOk, IfErr, SomeIff, if◌then◌else◌};
 ghost use Rattle.std.specs.Char.{is_ascii_digit};
 ghost use Rattle.std.specs.List.{list_all};
-ghost use Rattle.psi_words.specs.Forms.{is_number, is_numeral, is_of, number_of, read, seed_of};
+ghost use Rattle.psi_words.specs.Forms.{is_number, is_numeral, is_of, written_number, read, seed_of};
 ghost use Rattle.psi_words.specs.Forms.Form.{Number, Seed, File};
 ghost use Rattle.psi_words.specs.declared.fault.WordFault.TheVariants.{NoMemory, Value};
 
@@ -13,7 +13,7 @@ use std::alloc::Global;
 
 /// The value of a number word from `low` to `high`, which stands at the number `at` of all words.
 pub fn read_number(word: &str, at: u32, low: u64, high: u64) -> Result<u64, WordFault>
-    ensures value { result ≡ read (Number low high) at word.now (number_of word.now) }
+    ensures value { result ≡ read (Number low high) at word.now (written_number word.now) }
     ensures within { IfOk result (λ value. (low ≤ value) × (value ≤ high)) }
 {
     match value(word.as_bytes()) {
@@ -24,7 +24,7 @@ pub fn read_number(word: &str, at: u32, low: u64, high: u64) -> Result<u64, Word
 
 // The value of a number word. None where the word is none, or has a greater value than fits.
 fn value(word: &[u8]) -> Option<u64>
-    ensures { result ≡ (if is_of (Number 0 18446744073709551615) word.now then Some (number_of word.now) else None) }
+    ensures { result ≡ (if is_of (Number 0 18446744073709551615) word.now then Some (written_number word.now) else None) }
 {
     if is_number(word) {
         digits_value(word)
@@ -57,7 +57,7 @@ fn all_digits(word: &[u8]) -> bool
 // The number that decimal digits write. None where it does not fit.
 fn digits_value(digits: &[u8]) -> Option<u64>
     requires { is_numeral digits.now ≡ true }
-    ensures { SomeIff result (number_of digits.now < 2 ^ 64) (number_of digits.now) }
+    ensures { SomeIff result (written_number digits.now < 2 ^ 64) (written_number digits.now) }
 {
     let mut number: u64 = 0;
     for digit in digits {

@@ -9,7 +9,7 @@ use Rattle.psi_residue.specs.Ciphertexts.{IsCiphertext}
 use Rattle.psi_residue.specs.Parameters.{Parameters, parameter_bytes}
 use Rattle.query_codec.specs.declared.fault.CodecFault.{CodecFault}
 use Rattle.query_codec.specs.declared.fault.CodecFault.TheVariants as faults
-use Rattle.query_codec.specs.Ciphertexts.{AreCiphertexts, residue_in, modulus_at, ciphertexts_in, ciphertexts_bytes, wrong_residue}
+use Rattle.query_codec.specs.Ciphertexts.{AreCiphertexts, residue_in, residue_modulus, ciphertexts_in, ciphertexts_bytes, wrong_residue}
 use Rattle.query_codec.specs.Queries.{IsQuery, powers_of, query_body, query_fault, query_length, query_ciphertexts}
 use Rattle.query_codec.proofs.Residues.{none_wrong}
 use Rattle.query_codec.proofs.ReadBack.{read_back, AreCiphertexts-written}
@@ -37,7 +37,7 @@ AreCiphertexts-behind body head head' n n' head-is n-is are =
     subst (λ (k : ℕ). AreCiphertexts (drop k body) n') head-is (subst (λ (k : ℕ). AreCiphertexts (drop head body) k) n-is (subst (λ (xs : List ℕ). AreCiphertexts xs n) (all_behind head body) are))
 
 -- residues that are below their moduli have no fault
-pub no_wrong-behind : (body : List ℕ) (head head' n n' : ℕ) → head ≡ head' → n ≡ n' → ((i : ℕ) → i < 16384 * n' → residue_in (drop head' body) i < modulus_at i)
+pub no_wrong-behind : (body : List ℕ) (head head' n n' : ℕ) → head ≡ head' → n ≡ n' → ((i : ℕ) → i < 16384 * n' → residue_in (drop head' body) i < residue_modulus i)
     → (fault : CodecFault) → (fault ≡ faults.NoMemory) ⊎ (option_map faults.Residue (wrong_residue (take (length body - head) (drop head body)) (16384 * n)) ≡ Some fault) → (fault ≡ faults.NoMemory → ⊥) → ⊥
 no_wrong-behind body head head' n n' head-is n-is fit fault (inl none) other = other none
 no_wrong-behind body head head' n n' head-is n-is fit fault (inr some) other =

@@ -10,7 +10,7 @@ use Rattle.psi_residue.specs.Polynomials.{IsPolynomial}
 use Rattle.psi_residue.proofs.Sums.{slice_index-table}
 use Rattle.psi_residue.specs.Ciphertexts.{IsCiphertext, list_at, list_modulus}
 use Rattle.bfv_core.proofs.FourLists.{list-polynomial}
-use Rattle.query_codec.specs.Ciphertexts.{AreCiphertexts, residue_in, modulus_at, list_in, ciphertext_in, ciphertexts_in, residue_bytes, ciphertext_bytes, ciphertexts_bytes}
+use Rattle.query_codec.specs.Ciphertexts.{AreCiphertexts, residue_in, residue_modulus, list_in, ciphertext_in, ciphertexts_in, residue_bytes, ciphertext_bytes, ciphertexts_bytes}
 use Rattle.query_codec.proofs.Pieces.{piece_at, length-pieces}
 use Rattle.query_codec.proofs.Residues.{list_in-from, modulus_of_list}
 
@@ -79,7 +79,7 @@ unfolding list_in
 residue-in_list bytes k j lt = sym (slice_index-table 4096 (λ i. residue_in bytes (4096 * k + i)) j lt)
 
 fits-at : (cts : List (List (List ℕ))) → All IsCiphertext cts → (c l j : ℕ) → c < length cts → l < 4 → j < 4096
-    → residue_in (ciphertexts_bytes cts) (4096 * (4 * c + l) + j) < modulus_at (4096 * (4 * c + l) + j)
+    → residue_in (ciphertexts_bytes cts) (4096 * (4 * c + l) + j) < residue_modulus (4096 * (4 * c + l) + j)
 fits-at cts each c l j within few lt =
     let bytes = ciphertexts_bytes cts in
     let ct = get_or cts c [] in
@@ -96,7 +96,7 @@ AreCiphertexts-written cts each = record {
   size = length-pieces ciphertext_bytes 81920 cts [] (λ j within. length-ciphertext (get_or cts j []) (All-get_or IsCiphertext cts j [] within each));
   fit = λ i lt.
       let e : 4096 * (4 * (i / 16384) + i / 4096 % 4) + i % 4096 ≡ i = omega arith in
-      subst (λ (n : ℕ). residue_in (ciphertexts_bytes cts) n < modulus_at n) e (fits-at cts each (i / 16384) (i / 4096 % 4) (i % 4096) (omega arith) (omega arith) (omega arith));
+      subst (λ (n : ℕ). residue_in (ciphertexts_bytes cts) n < residue_modulus n) e (fits-at cts each (i / 16384) (i / 4096 % 4) (i % 4096) (omega arith) (omega arith) (omega arith));
 }
 
 -- one ciphertext more is written

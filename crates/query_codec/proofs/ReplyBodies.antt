@@ -17,7 +17,7 @@ use Rattle.psi_residue.specs.Ciphertexts.{IsCiphertext}
 use Rattle.query_codec.specs.declared.fault.CodecFault.{CodecFault}
 use Rattle.query_codec.specs.declared.fault.CodecFault.TheVariants as faults
 use Rattle.query_codec.specs.Ciphertexts.{AreCiphertexts, ciphertexts_in, ciphertexts_bytes, wrong_residue}
-use Rattle.query_codec.specs.Replies.{IsReply, IsReplyHead, row_count, reply_counts, planes_of, reply_head, reply_length, reply_ciphertexts, reply_fault, reply_bytes}
+use Rattle.query_codec.specs.Replies.{IsReply, IsReplyHead, row_count, reply_counts, reply_planes, reply_head, reply_length, reply_ciphertexts, reply_fault, reply_bytes}
 use Rattle.item_slots.proofs.BigBytes.{bytes_from, written_again}
 use Rattle.query_codec.proofs.Pieces.{pieces, piece_at, length-pieces}
 use Rattle.query_codec.proofs.QueryBodies.{behind-same, same-pointwise}
@@ -38,29 +38,29 @@ pub reply_counts-is : (p : Parameters) (body : List ℕ) → map (row_count body
 unfolding reply_counts
 reply_counts-is p body = refl
 
-pub planes-is : (p : Parameters) (body : List ℕ) (bundles : ℕ) → bundles ≡ sum (map (row_count body) (range_with_len 0 p.rows)) → (1 + p.units) * bundles ≡ planes_of p (reply_counts p body)
+pub planes-is : (p : Parameters) (body : List ℕ) (bundles : ℕ) → bundles ≡ sum (map (row_count body) (range_with_len 0 p.rows)) → (1 + p.units) * bundles ≡ reply_planes p (reply_counts p body)
 planes-is p body bundles e = ap (λ (n : ℕ). (1 + p.units) * n) (e ∙ ap sum (reply_counts-is p body))
 
 -- ---- the faults
 
 -- the fault of a body of the right length and header is that of its residues
 pub reply_fault_of_residues : (p : Parameters) (body : List ℕ) → reply_head p ≤ length body → take 8 body ≡ parameter_bytes p → length body ≡ reply_length p (reply_counts p body)
-    → reply_fault p body ≡ option_map faults.Residue (wrong_residue (drop (reply_head p) body) (16384 * planes_of p (reply_counts p body)))
+    → reply_fault p body ≡ option_map faults.Residue (wrong_residue (drop (reply_head p) body) (16384 * reply_planes p (reply_counts p body)))
 reply_fault_of_residues p body within header size =
     let want = reply_length p (reply_counts p body) in
     let long : nat_le (reply_head p) (length body) ≡ true = le-leb (reply_head p) (length body) within in
     let headed : pointwise nat_eq (take 8 body) (parameter_bytes p) ≡ true = same-pointwise (take 8 body) (parameter_bytes p) header in
     let sized : nat_eq (length body) want ≡ true = eq-eqb (length body) want size in
-    (λ i. if not (long i) then Some (faults.Length (reply_head p)) else (if not (headed i) then Some faults.WrongParams else (if not (sized i) then Some (faults.Length want) else option_map faults.Residue (wrong_residue (drop (reply_head p) body) (16384 * planes_of p (reply_counts p body))))))
+    (λ i. if not (long i) then Some (faults.Length (reply_head p)) else (if not (headed i) then Some faults.WrongParams else (if not (sized i) then Some (faults.Length want) else option_map faults.Residue (wrong_residue (drop (reply_head p) body) (16384 * reply_planes p (reply_counts p body))))))
 
 pub no_fault-IsReply : (p : Parameters) (body : List ℕ) → IsReply p body → reply_fault p body ≡ None
 no_fault-IsReply p body r =
     reply_fault_of_residues p body r.head.room r.head.header r.head.size
-    ∙ ap (λ o. option_map faults.Residue o) (none_wrong (drop (reply_head p) body) (16384 * planes_of p (reply_counts p body)) r.fit)
+    ∙ ap (λ o. option_map faults.Residue o) (none_wrong (drop (reply_head p) body) (16384 * reply_planes p (reply_counts p body)) r.fit)
 
 -- ---- what a body says
 
-pub IsReply-from : (p : Parameters) (body : List ℕ) → IsReplyHead p body → AreCiphertexts (drop (reply_head p) body) (planes_of p (reply_counts p body)) → IsReply p body
+pub IsReply-from : (p : Parameters) (body : List ℕ) → IsReplyHead p body → AreCiphertexts (drop (reply_head p) body) (reply_planes p (reply_counts p body)) → IsReply p body
 IsReply-from p body head are = record { head = head; fit = are.fit }
 
 -- a fault of the head, but for want of memory, is no reply's
@@ -69,18 +69,18 @@ no_reply p body fault (inl none) other r = other none
 no_reply p body fault (inr some) other r = let none = no_fault-IsReply p body r in absurd cc
 
 -- the bytes behind the head are those of the ciphertexts
-pub length-behind : (p : Parameters) (body : List ℕ) → IsReplyHead p body → length (drop (reply_head p) body) ≡ 81920 * planes_of p (reply_counts p body)
-length-behind p body head = behind_length (length body) (reply_head p) (81920 * planes_of p (reply_counts p body)) (length (drop (reply_head p) body)) head.size (length-drop (reply_head p) body)
+pub length-behind : (p : Parameters) (body : List ℕ) → IsReplyHead p body → length (drop (reply_head p) body) ≡ 81920 * reply_planes p (reply_counts p body)
+length-behind p body head = behind_length (length body) (reply_head p) (81920 * reply_planes p (reply_counts p body)) (length (drop (reply_head p) body)) head.size (length-drop (reply_head p) body)
   where
     behind_length : (all head rest behind : ℕ) → all ≡ head + rest → behind ≡ all - head → behind ≡ rest
     behind_length all head rest behind e f = omega (arith, e, f)
 
-pub AreCiphertexts-reply : (p : Parameters) (body : List ℕ) → IsReply p body → AreCiphertexts (drop (reply_head p) body) (planes_of p (reply_counts p body))
+pub AreCiphertexts-reply : (p : Parameters) (body : List ℕ) → IsReply p body → AreCiphertexts (drop (reply_head p) body) (reply_planes p (reply_counts p body))
 AreCiphertexts-reply p body r = record { size = length-behind p body r.head; fit = r.fit }
 
-pub reply_ciphertexts-is : (p : Parameters) (body : List ℕ) (head planes : ℕ) → head ≡ reply_head p → planes ≡ planes_of p (reply_counts p body) → ciphertexts_in (take (length body - head) (drop head body)) planes ≡ reply_ciphertexts p body
+pub reply_ciphertexts-is : (p : Parameters) (body : List ℕ) (head planes : ℕ) → head ≡ reply_head p → planes ≡ reply_planes p (reply_counts p body) → ciphertexts_in (take (length body - head) (drop head body)) planes ≡ reply_ciphertexts p body
 unfolding reply_ciphertexts
-reply_ciphertexts-is p body head planes head-is planes-are = behind-same ciphertexts_in body head (reply_head p) planes (planes_of p (reply_counts p body)) head-is planes-are
+reply_ciphertexts-is p body head planes head-is planes-are = behind-same ciphertexts_in body head (reply_head p) planes (reply_planes p (reply_counts p body)) head-is planes-are
 
 -- the numbers, written again
 spelled_counts : (body : List ℕ) (rows : ℕ) → 8 + 2 * rows ≤ length body → ((i : ℕ) → get_or body i 0 < 256) → flat_map (big_bytes 2) (map (row_count body) (range_with_len 0 rows)) ≡ take (2 * rows) (drop 8 body)
@@ -99,7 +99,7 @@ spelled_reply p body counts cts r each counts-are cts-are =
     let numbers : flat_map (big_bytes 2) counts ≡ take (2 * p.rows) (drop 8 body) = ap (flat_map (big_bytes 2)) counts-are ∙ spelled_counts body p.rows r.head.room each in
     let text : ciphertexts_bytes cts ≡ drop (2 * p.rows) (drop 8 body) =
     ap ciphertexts_bytes cts-are
-    ∙ spelled_ciphertexts (drop (reply_head p) body) (planes_of p (reply_counts p body)) (AreCiphertexts-reply p body r) (bytes_from (reply_head p) body each)
+    ∙ spelled_ciphertexts (drop (reply_head p) body) (reply_planes p (reply_counts p body)) (AreCiphertexts-reply p body r) (bytes_from (reply_head p) body each)
     ∙ sym (drop-drop (2 * p.rows) 8 body) in
     (λ i. sym r.head.header i ++ numbers i ++ text i)
     ∙ append_assoc (take 8 body) (take (2 * p.rows) (drop 8 body)) (drop (2 * p.rows) (drop 8 body))
@@ -146,12 +146,12 @@ unfolding reply_bytes
 header-reply p counts cts = refl
 
 -- it is a reply
-pub IsReply-written : (p : Parameters) (counts : List ℕ) (cts : List (List (List ℕ))) → length counts ≡ p.rows → ((i : ℕ) → get_or counts i 0 < 65536) → length cts ≡ planes_of p counts → All IsCiphertext cts → IsReply p (reply_bytes p counts cts)
+pub IsReply-written : (p : Parameters) (counts : List ℕ) (cts : List (List (List ℕ))) → length counts ≡ p.rows → ((i : ℕ) → get_or counts i 0 < 65536) → length cts ≡ reply_planes p counts → All IsCiphertext cts → IsReply p (reply_bytes p counts cts)
 IsReply-written p counts cts rows small planes each =
     let body = reply_bytes p counts cts in
     let long = length-reply p counts cts rows each in
-    let number : length cts ≡ planes_of p (reply_counts p body) = planes ∙ ap (planes_of p) (sym (counts_back p counts cts rows small)) in
-    let are : AreCiphertexts (drop (reply_head p) body) (planes_of p (reply_counts p body)) =
+    let number : length cts ≡ reply_planes p (reply_counts p body) = planes ∙ ap (reply_planes p) (sym (counts_back p counts cts rows small)) in
+    let are : AreCiphertexts (drop (reply_head p) body) (reply_planes p (reply_counts p body)) =
     subst (λ (n : ℕ). AreCiphertexts (drop (reply_head p) body) n) number (subst (λ (ys : List ℕ). AreCiphertexts ys (length cts)) (sym (behind_written p counts cts rows)) (AreCiphertexts-written cts each)) in
     record {
       head = record {
@@ -163,10 +163,10 @@ IsReply-written p counts cts rows small planes each =
     }
 
 -- and its ciphertexts are those that were written
-pub reply_read_back : (p : Parameters) (counts : List ℕ) (cts : List (List (List ℕ))) → length counts ≡ p.rows → ((i : ℕ) → get_or counts i 0 < 65536) → length cts ≡ planes_of p counts → All IsCiphertext cts → reply_ciphertexts p (reply_bytes p counts cts) ≡ cts
+pub reply_read_back : (p : Parameters) (counts : List ℕ) (cts : List (List (List ℕ))) → length counts ≡ p.rows → ((i : ℕ) → get_or counts i 0 < 65536) → length cts ≡ reply_planes p counts → All IsCiphertext cts → reply_ciphertexts p (reply_bytes p counts cts) ≡ cts
 unfolding reply_ciphertexts
 reply_read_back p counts cts rows small planes each =
-    let number : planes_of p (reply_counts p (reply_bytes p counts cts)) ≡ length cts = ap (planes_of p) (counts_back p counts cts rows small) ∙ sym planes in
+    let number : reply_planes p (reply_counts p (reply_bytes p counts cts)) ≡ length cts = ap (reply_planes p) (counts_back p counts cts rows small) ∙ sym planes in
     (λ i. ciphertexts_in (behind_written p counts cts rows i) (number i)) ∙ read_back cts each
 
 pub reply_bytes-is : (p : Parameters) (counts : List ℕ) (cts : List (List (List ℕ))) → (parameter_bytes p ++ flat_map (big_bytes 2) counts) ++ ciphertexts_bytes cts ≡ reply_bytes p counts cts
@@ -183,7 +183,7 @@ few_bundles (n ∷ counts) small =
     let later = few_bundles counts (λ i. small (suc i)) in
     omega (arith, sum_by-cons (λ x. x) n counts, here, later)
 
-pub few_planes : (p : Parameters) (counts : List ℕ) → p.units ≤ 4 → p.rows ≤ 4 → length counts ≡ p.rows → ((i : ℕ) → get_or counts i 0 < 65536) → planes_of p counts ≤ 1310700
+pub few_planes : (p : Parameters) (counts : List ℕ) → p.units ≤ 4 → p.rows ≤ 4 → length counts ≡ p.rows → ((i : ℕ) → get_or counts i 0 < 65536) → reply_planes p counts ≤ 1310700
 few_planes p counts units rows number small =
     let bundles = few_bundles counts small in
     let most : sum counts ≤ 262140 = omega (arith, bundles, rows, number) in

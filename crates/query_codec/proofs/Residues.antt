@@ -9,34 +9,34 @@ use Rattle.psi_residue.proofs.Sums.{length-table, slice_index-table, same_as_tab
 use Rattle.psi_residue.specs.Ciphertexts.{list_modulus}
 use Rattle.query_codec.specs.declared.fault.CodecFault.{CodecFault}
 use Rattle.query_codec.specs.declared.fault.CodecFault.TheVariants as faults
-use Rattle.query_codec.specs.Ciphertexts.{AreBelow, IsFirstWrong, IsResidueFault, residue_in, modulus_at, list_in, ciphertext_in, ciphertexts_in, wrong_residue}
+use Rattle.query_codec.specs.Ciphertexts.{AreBelow, IsFirstWrong, IsResidueFault, residue_in, residue_modulus, list_in, ciphertext_in, ciphertexts_in, wrong_residue}
 use Rattle.query_codec.proofs.Finding.{find-none, find-first}
 
 -- the first residue that is not below its modulus
 pub first_wrong : (bytes : List ℕ) (n i : ℕ) → IsFirstWrong bytes 0 n i → wrong_residue bytes n ≡ Some i
 unfolding wrong_residue
 first_wrong bytes n i h =
-    let test = λ (k : ℕ). not (nat_lt (residue_in bytes k) (modulus_at k)) in
+    let test = λ (k : ℕ). not (nat_lt (residue_in bytes k) (residue_modulus k)) in
     let e : 0 + i ≡ i = omega arith in
-    find-first test 0 n i h.within (λ k low high. ap not (lt-ltb (residue_in bytes k) (modulus_at k) (h.before k low (omega arith))))
-    (ap test e ∙ ap not (le-ltb (residue_in bytes i) (modulus_at i) h.wrong))
+    find-first test 0 n i h.within (λ k low high. ap not (lt-ltb (residue_in bytes k) (residue_modulus k) (h.before k low (omega arith))))
+    (ap test e ∙ ap not (le-ltb (residue_in bytes i) (residue_modulus i) h.wrong))
     ∙ ap (λ (k : ℕ). Some k) e
 
 -- each residue is below its modulus
-pub none_wrong : (bytes : List ℕ) (n : ℕ) → ((k : ℕ) → k < n → residue_in bytes k < modulus_at k) → wrong_residue bytes n ≡ None
+pub none_wrong : (bytes : List ℕ) (n : ℕ) → ((k : ℕ) → k < n → residue_in bytes k < residue_modulus k) → wrong_residue bytes n ≡ None
 unfolding wrong_residue
 none_wrong bytes n each =
-    find-none (λ (k : ℕ). not (nat_lt (residue_in bytes k) (modulus_at k))) 0 n (λ k low high. ap not (lt-ltb (residue_in bytes k) (modulus_at k) (each k (omega arith))))
+    find-none (λ (k : ℕ). not (nat_lt (residue_in bytes k) (residue_modulus k))) 0 n (λ k low high. ap not (lt-ltb (residue_in bytes k) (residue_modulus k) (each k (omega arith))))
 
 -- residues from a to b, and from there to c
 pub AreBelow-joined : (bytes : List ℕ) (a b c : ℕ) → AreBelow bytes a b → AreBelow bytes b c → AreBelow bytes a c
 AreBelow-joined bytes a b c front back i low high = elim (cases_lt i b) [ inl lt ↦ front i low lt | inr le ↦ back i le high ]
 
-pub AreBelow-more : (bytes : List ℕ) (a b : ℕ) → AreBelow bytes a b → residue_in bytes b < modulus_at b → AreBelow bytes a (b + 1)
+pub AreBelow-more : (bytes : List ℕ) (a b : ℕ) → AreBelow bytes a b → residue_in bytes b < residue_modulus b → AreBelow bytes a (b + 1)
 AreBelow-more bytes a b front here i low high =
     elim (cases_lt i b) [
       | inl lt ↦ front i low lt
-      | inr le ↦ let same : b ≡ i = omega arith in subst (λ (k : ℕ). residue_in bytes k < modulus_at k) same here
+      | inr le ↦ let same : b ≡ i = omega arith in subst (λ (k : ℕ). residue_in bytes k < residue_modulus k) same here
     ]
 
 pub IsFirstWrong-later : (bytes : List ℕ) (a b c d i : ℕ) → a ≤ b → c ≤ d → AreBelow bytes a b → IsFirstWrong bytes b c i → IsFirstWrong bytes a d i
@@ -62,7 +62,7 @@ unfolding list_in
 list_in-from bytes k xs len each = same_as_table 4096 (λ i. residue_in bytes (4096 * k + i)) xs len each
 
 -- the residues of a list have its modulus
-pub modulus_of_list : (c l i : ℕ) → l < 4 → i < 4096 → modulus_at (4096 * (4 * c + l) + i) ≡ list_modulus l
+pub modulus_of_list : (c l i : ℕ) → l < 4 → i < 4096 → residue_modulus (4096 * (4 * c + l) + i) ≡ list_modulus l
 modulus_of_list c l i few lt =
     let e : (4096 * (4 * c + l) + i) / 4096 % 2 ≡ l % 2 = omega arith in
     ap (λ (u : ℕ). if nat_eq u 0 then first_modulus else second_modulus) e

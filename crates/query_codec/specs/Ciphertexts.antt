@@ -14,8 +14,8 @@ abbrev pub ciphertext_size : ℕ
 ciphertext_size = 5 * (4 * ring_degree)
 
 -- the modulus of residue number i
-abbrev pub modulus_at : ℕ → ℕ
-modulus_at i = list_modulus (i / ring_degree)
+abbrev pub residue_modulus : ℕ → ℕ
+residue_modulus i = list_modulus (i / ring_degree)
 
 -- residue number i of the bytes
 unfoldable pub residue_in : List ℕ → ℕ → ℕ
@@ -35,18 +35,18 @@ ciphertexts_in bytes n = map (ciphertext_in bytes) (range_with_len 0 n)
 
 -- the number of the first of n residues that is not below its modulus
 unfoldable pub wrong_residue : List ℕ → ℕ → Option ℕ
-wrong_residue bytes n = find (λ i. not (nat_lt (residue_in bytes i) (modulus_at i))) (range_with_len 0 n)
+wrong_residue bytes n = find (λ i. not (nat_lt (residue_in bytes i) (residue_modulus i))) (range_with_len 0 n)
 
 -- residues a to b - 1 are below their moduli
 abbrev pub AreBelow : List ℕ → (a b : ℕ) → Type 0
-AreBelow bytes a b = (i : ℕ) → a ≤ i → i < b → residue_in bytes i < modulus_at i
+AreBelow bytes a b = (i : ℕ) → a ≤ i → i < b → residue_in bytes i < residue_modulus i
 
 -- of residues a to b - 1 number i is the first that is not below its modulus
 pub record IsFirstWrong (bytes : List ℕ) (a b i : ℕ) : Type 0 where
   pub from : a ≤ i
   pub within : i < b
   pub before : AreBelow bytes a i
-  pub wrong : modulus_at i ≤ residue_in bytes i
+  pub wrong : residue_modulus i ≤ residue_in bytes i
 
 -- the fault of residues a to b - 1: the first that is not below its modulus
 abbrev pub IsResidueFault : List ℕ → (a b : ℕ) → CodecFault → Type 0
@@ -55,7 +55,7 @@ IsResidueFault bytes a b fault = (i : ℕ) × (fault ≡ faults.Residue i) × Is
 -- the bytes are n ciphertexts
 pub record AreCiphertexts (bytes : List ℕ) (n : ℕ) : Type 0 where
   pub size : length bytes ≡ ciphertext_size * n
-  pub fit : (i : ℕ) → i < 4 * ring_degree * n → residue_in bytes i < modulus_at i
+  pub fit : (i : ℕ) → i < 4 * ring_degree * n → residue_in bytes i < residue_modulus i
 
 -- a list of residues as bytes
 abbrev pub residue_bytes : List ℕ → List ℕ

@@ -7,7 +7,7 @@ use Rattle.psi_residue.specs.Numbers.{ring_degree}
 use Rattle.psi_residue.specs.Parameters.{Parameters, parameter_bytes}
 use Rattle.query_codec.specs.declared.fault.CodecFault.{CodecFault}
 use Rattle.query_codec.specs.declared.fault.CodecFault.TheVariants as faults
-use Rattle.query_codec.specs.Ciphertexts.{ciphertext_size, ciphertexts_in, ciphertexts_bytes, modulus_at, residue_in, wrong_residue}
+use Rattle.query_codec.specs.Ciphertexts.{ciphertext_size, ciphertexts_in, ciphertexts_bytes, residue_modulus, residue_in, wrong_residue}
 
 -- the ciphertexts of a query
 abbrev pub powers_of : Parameters → ℕ
@@ -25,7 +25,7 @@ query_ciphertexts p body = ciphertexts_in (drop 8 body) (powers_of p)
 pub record IsQuery (p : Parameters) (body : List ℕ) : Type 0 where
   pub size : length body ≡ query_length p
   pub header : take 8 body ≡ parameter_bytes p
-  pub fit : (i : ℕ) → i < 4 * ring_degree * powers_of p → residue_in (drop 8 body) i < modulus_at i
+  pub fit : (i : ℕ) → i < 4 * ring_degree * powers_of p → residue_in (drop 8 body) i < residue_modulus i
 
 -- the first fault of a query body: its length, then its parameters, then its residues
 abbrev pub query_fault : Parameters → List ℕ → Option CodecFault

@@ -12,7 +12,7 @@ use Rattle.psi_bundle.specs.Versions.{Row}
 use Rattle.psi_bundle.specs.Bodies.{bundle_counts, evaluated_rows}
 use Rattle.query_codec.specs.declared.fault.CodecFault.{CodecFault}
 use Rattle.query_codec.specs.declared.fault.CodecFault.TheVariants as faults
-use Rattle.query_codec.specs.Ciphertexts.{ciphertext_in, ciphertext_size, ciphertexts_in, ciphertexts_bytes, modulus_at, residue_in, wrong_residue}
+use Rattle.query_codec.specs.Ciphertexts.{ciphertext_in, ciphertext_size, ciphertexts_in, ciphertexts_bytes, residue_modulus, residue_in, wrong_residue}
 
 -- the number of bundles of row r
 unfoldable pub row_count : List ℕ → ℕ → ℕ
@@ -23,8 +23,8 @@ unfoldable pub reply_counts : Parameters → List ℕ → List ℕ
 reply_counts p body = map (row_count body) (range_with_len 0 p.rows)
 
 -- the ciphertexts of a reply with these numbers of bundles: one for each plane of each bundle
-abbrev pub planes_of : Parameters → List ℕ → ℕ
-planes_of p counts = planes_of_bundle p * sum counts
+abbrev pub reply_planes : Parameters → List ℕ → ℕ
+reply_planes p counts = planes_of_bundle p * sum counts
 
 -- the bytes before the ciphertexts
 abbrev pub reply_head : Parameters → ℕ
@@ -32,11 +32,11 @@ reply_head p = 8 + 2 * p.rows
 
 -- the bytes of a reply body with these numbers of bundles
 abbrev pub reply_length : Parameters → List ℕ → ℕ
-reply_length p counts = reply_head p + ciphertext_size * planes_of p counts
+reply_length p counts = reply_head p + ciphertext_size * reply_planes p counts
 
 -- the ciphertexts of a reply body
 unfoldable pub reply_ciphertexts : Parameters → List ℕ → List (List (List ℕ))
-reply_ciphertexts p body = ciphertexts_in (drop (reply_head p) body) (planes_of p (reply_counts p body))
+reply_ciphertexts p body = ciphertexts_in (drop (reply_head p) body) (reply_planes p (reply_counts p body))
 
 -- a body has a reply's head: the parameters' bytes, a number for each row, and the bytes of as many ciphertexts behind them
 pub record IsReplyHead (p : Parameters) (body : List ℕ) : Type 0 where
@@ -51,7 +51,7 @@ reply_ciphertext p body c = ciphertext_in (drop (reply_head p) body) c
 -- a body is a reply under the parameters: its head, and each residue is below its modulus
 pub record IsReply (p : Parameters) (body : List ℕ) : Type 0 where
   pub head : IsReplyHead p body
-  pub fit : (i : ℕ) → i < 4 * ring_degree * planes_of p (reply_counts p body) → residue_in (drop (reply_head p) body) i < modulus_at i
+  pub fit : (i : ℕ) → i < 4 * ring_degree * reply_planes p (reply_counts p body) → residue_in (drop (reply_head p) body) i < residue_modulus i
 
 -- the first fault of a reply body: too short for the numbers, then its parameters, then its length, then its residues
 abbrev pub reply_fault : Parameters → List ℕ → Option CodecFault
@@ -59,7 +59,7 @@ reply_fault p body =
     if not (nat_le (reply_head p) (length body)) then Some (faults.Length (reply_head p))
     else (if not (pointwise nat_eq (take 8 body) (parameter_bytes p)) then Some faults.WrongParams
     else (if not (nat_eq (length body) (reply_length p (reply_counts p body))) then Some (faults.Length (reply_length p (reply_counts p body)))
-    else option_map faults.Residue (wrong_residue (drop (reply_head p) body) (4 * ring_degree * planes_of p (reply_counts p body)))))
+    else option_map faults.Residue (wrong_residue (drop (reply_head p) body) (4 * ring_degree * reply_planes p (reply_counts p body)))))
 
 -- the body of a reply with these numbers of bundles and these ciphertexts
 unfoldable pub reply_bytes : Parameters → List ℕ → List (List (List ℕ)) → List ℕ

@@ -7,7 +7,7 @@ ghost use Rattle.psi_residue.specs.Parameters.{parameter_bytes};
 ghost use Rattle.noise_ledger.specs.Verdicts.{parameters_of, ArePassed};
 ghost use Rattle.query_codec.specs.declared.fault.CodecFault.TheVariants.{NoMemory};
 ghost use Rattle.query_codec.specs.Ciphertexts.{AreBelow, IsResidueFault};
-ghost use Rattle.query_codec.specs.Replies.{IsReply, IsReplyHead, planes_of, reply_bytes, reply_ciphertext, reply_ciphertexts, reply_counts, reply_fault, reply_head, reply_length, row_count};
+ghost use Rattle.query_codec.specs.Replies.{IsReply, IsReplyHead, reply_planes, reply_bytes, reply_ciphertext, reply_ciphertexts, reply_counts, reply_fault, reply_head, reply_length, row_count};
 
 use crate::ciphertexts::{CIPHERTEXT_BYTES, append_ciphertexts, read_ciphertext, read_ciphertexts};
 use crate::fault::CodecFault;
@@ -77,7 +77,7 @@ pub fn read_reply_ciphertext(
 ) -> Result<Ciphertext, CodecFault>
     requires passed { ArePassed (parameters_of params.now) }
     requires head { IsReplyHead (parameters_of params.now) body.now }
-    requires within { c < planes_of (parameters_of params.now) (reply_counts (parameters_of params.now) body.now) }
+    requires within { c < reply_planes (parameters_of params.now) (reply_counts (parameters_of params.now) body.now) }
     ensures read { IfOk result (λ ct. ct ≡ reply_ciphertext (parameters_of params.now) body.now c) }
     ensures below { OnOk result (AreBelow (drop (reply_head (parameters_of params.now)) body.now) (4 * ring_degree * c) (4 * ring_degree * (c + 1))) }
     ensures fault { IfErr result (λ fault. (fault ≡ NoMemory) ⊎ IsResidueFault (drop (reply_head (parameters_of params.now)) body.now) (4 * ring_degree * c) (4 * ring_degree * (c + 1)) fault) }
@@ -95,7 +95,7 @@ pub fn write_reply(
 ) -> Result<Vec<u8>, AllocError>
     requires passed { ArePassed (parameters_of params.now) }
     requires rows { length counts.now ≡ params.now.rows }
-    requires planes { length cts.now ≡ planes_of (parameters_of params.now) counts.now }
+    requires planes { length cts.now ≡ reply_planes (parameters_of params.now) counts.now }
     ensures written { IfOk result (λ body. body.items ≡ reply_bytes (parameters_of params.now) counts.now cts.now) }
     ensures reply { IfOk result (λ body. IsReply (parameters_of params.now) body.items) }
     ensures counts_back { IfOk result (λ body. reply_counts (parameters_of params.now) body.items ≡ counts.now) }
@@ -144,7 +144,7 @@ fn head(params: &Params) -> usize
 fn planes(params: &Params, body: &[u8]) -> usize
     requires passed { ArePassed (parameters_of params.now) }
     requires within { reply_head (parameters_of params.now) ≤ length body.now }
-    ensures number { result ≡ planes_of (parameters_of params.now) (reply_counts (parameters_of params.now) body.now) }
+    ensures number { result ≡ reply_planes (parameters_of params.now) (reply_counts (parameters_of params.now) body.now) }
     ensures few { result ≤ 1310700 }
 {
     (1 + params.units as usize) * bundles(body, params.rows as usize)

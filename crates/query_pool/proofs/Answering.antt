@@ -7,7 +7,7 @@ use Rattle.psi_bundle.specs.declared.history.Call.{Call}
 use Rattle.psi_bundle.specs.declared.history.Call.TheVariants as call
 use Rattle.psi_frames.specs.declared.reply.Reply.{Reply}
 use Rattle.psi_frames.specs.declared.request.Request.{Request}
-use Rattle.psi_frames.specs.Requests.{call_of, code_of, is_repack, query_of}
+use Rattle.psi_frames.specs.Requests.{call_of, code_of, is_repack, asked_ciphertexts}
 use Rattle.psi_frames.specs.Served.{body_of, from_of, from_or_zero, place_of}
 use Rattle.live_sender.specs.declared.origin.Origin.{Origin}
 use Rattle.live_sender.specs.Turns.{Known}
@@ -27,7 +27,7 @@ module _ {E : Type 0} (z : Origin) (v w : Known) (r : Request) (result : Result 
         (λ from x has at. absurd (none-some from (sym no_from ∙ has))) (λ x body at has. absurd (none-some body (sym no_body ∙ has))) tells
     by (Err e) tells no_from no_body = tt
 
-  pub asked-one : (query : List (List (List ℕ))) → code_of r ≡ None → ((x : ℕ) → call_of r x ≡ Some call.Ask) → is_repack r ≡ false → query ≡ query_of r → IfOk result (Tells v w call.Ask)
+  pub asked-one : (query : List (List (List ℕ))) → code_of r ≡ None → ((x : ℕ) → call_of r x ≡ Some call.Ask) → is_repack r ≡ false → query ≡ asked_ciphertexts r → IfOk result (Tells v w call.Ask)
       → IfOk result (λ told. from_of told ≡ None) → IfOk result (IsBodyAt z w.seen query) → IfOk result (λ told. IsOne z v w (lane_exchange r told))
   asked-one query uncoded calls other same tells from body = by result tells from body where
     by : (s : Result Reply E) → IfOk s (Tells v w call.Ask) → IfOk s (λ told. from_of told ≡ None) → IfOk s (IsBodyAt z w.seen query) → IfOk s (λ told. IsOne z v w (lane_exchange r told))

@@ -7,7 +7,7 @@ use Rattle.psi_bundle.specs.declared.history.Entry.{Entry}
 use Rattle.psi_bundle.specs.Histories.{version_at}
 use Rattle.psi_bundle.specs.Versions.{Version}
 use Rattle.query_codec.specs.Replies.{reply_body}
-use Rattle.psi_frames.specs.Requests.{query_of}
+use Rattle.psi_frames.specs.Requests.{asked_ciphertexts}
 use Rattle.psi_frames.specs.Served.{Exchange, IsEvaluated, IsRecorded, place_of}
 use Rattle.sender_core.proofs.StampHistories.{version-more}
 
@@ -36,5 +36,5 @@ module _ (old new : List Entry) (longer : IsPrefix old new) (e : Exchange) (with
       let lt = within x at in
       let same = version-more start old longer.0 x (omega (arith, lt)) in
       h x body at told
-      ∙ ap (λ (v : Version). reply_body p v.rows (query_of e.request)) (sym same)
-      ∙ ap (λ (es : List Entry). reply_body p (version_at start es x).rows (query_of e.request)) (sym longer.1)
+      ∙ ap (λ (v : Version). reply_body p v.rows (asked_ciphertexts e.request)) (sym same)
+      ∙ ap (λ (es : List Entry). reply_body p (version_at start es x).rows (asked_ciphertexts e.request)) (sym longer.1)

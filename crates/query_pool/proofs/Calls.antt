@@ -13,8 +13,8 @@ use Rattle.psi_frames.specs.declared.reply.Reply.{Reply}
 use Rattle.psi_frames.specs.declared.reply.Reply.TheVariants as reply
 use Rattle.psi_frames.specs.declared.request.Request.{Request}
 use Rattle.psi_frames.specs.declared.request.Request.TheVariants as request
-use Rattle.psi_frames.specs.OneLane.{call_on, entries_by, reply_by, reply_of, refusal_code, version_by}
-use Rattle.psi_frames.specs.Requests.{call_of, code_of, query_of}
+use Rattle.psi_frames.specs.OneLane.{call_on, entries_by, reply_by, reply_telling, refusal_code, version_by}
+use Rattle.psi_frames.specs.Requests.{call_of, code_of, asked_ciphertexts}
 use Rattle.psi_frames.specs.Served.{journal_limit, from_of}
 use Rattle.sender_core.specs.Kept.{Contents, version_of}
 use Rattle.query_pool.specs.Alone.{IsAnsweredAlone, IsCalled, IsEntered, IsFull}
@@ -27,13 +27,13 @@ call-made v r c room is = let test : nat_lt v.count journal_limit ≡ true = lt-
 
 -- a request whose call is entered
 entered : (p : Parameters) (old new : Contents CacheOf) (r : Request) (c : Call) (body : List ℕ) (told : Reply) → call_of r (length old.journal) ≡ Some c
-    → body ≡ reply_body p (version_of old).rows (query_of r) → IsEntered old new c body told → IsAnsweredAlone p old new r told
+    → body ≡ reply_body p (version_of old).rows (asked_ciphertexts r) → IsEntered old new c body told → IsAnsweredAlone p old new r told
 entered p old new r c body told is asked e =
     let v = version_of old in
     let made = call-made v r c e.room is in
     record {
       reply =
-          e.tells ∙ (λ i. reply_of (e.stepped.answered i) (length old.journal) (asked i))
+          e.tells ∙ (λ i. reply_telling (e.stepped.answered i) (length old.journal) (asked i))
           ∙ sym (ap (reply_by p v r) made);
       version = e.stepped.version ∙ sym (ap (version_by v) made);
       entries =
@@ -76,7 +76,7 @@ met_full p old new r told uncoded f =
     (ap (λ (h : Contents CacheOf). h.start) f.kept) (f.tells ∙ ap (λ (o : Option ℕ). reply.Refused (refusal_code o)) (sym uncoded))
 
 pub answered : (p : Parameters) (old new : Contents CacheOf) (r : Request) (c : Call) (body : List ℕ) (told : Reply) → code_of r ≡ None → call_of r (length old.journal) ≡ Some c
-    → body ≡ reply_body p (version_of old).rows (query_of r) → IsCalled old new c body told → IsAnsweredAlone p old new r told
+    → body ≡ reply_body p (version_of old).rows (asked_ciphertexts r) → IsCalled old new c body told → IsAnsweredAlone p old new r told
 answered p old new r c body told uncoded is asked (inl e) = entered p old new r c body told is asked e
 answered p old new r c body told uncoded is asked (inr f) = met_full p old new r told uncoded f
 

@@ -9,7 +9,7 @@ use Rattle.psi_residue.specs.Parameters.{Parameters}
 use Rattle.psi_bundle.specs.Bodies.{bundle_counts, evaluated_bundle, evaluated_plane, evaluated_row, evaluated_rows}
 use Rattle.psi_bundle.specs.Planes.{planes_of_bundle}
 use Rattle.psi_bundle.specs.Versions.{Row, Stamped, row_at}
-use Rattle.query_codec.specs.Replies.{IsReply, planes_of, reply_body, reply_bytes, reply_counts, reply_length}
+use Rattle.query_codec.specs.Replies.{IsReply, reply_planes, reply_body, reply_bytes, reply_counts, reply_length}
 use Rattle.query_pool.specs.Rounds.{longest_body}
 
 -- ---- bundle by bundle
@@ -67,7 +67,7 @@ length-from p query n (row ∷ rows) =
     let count = ap (λ (m : ℕ). planes_of_bundle p * m) (sum_by-cons (λ (m : ℕ). m) (length row) (bundle_counts rows)) in
     length-append (evaluated_row p query n row) (flat_map (λ e. evaluated_row p query e.0 e.1) (enumerate_from (n + 1) rows)) ∙ omega (arith, here, rest, count)
 
-pub length-evaluated : (p : Parameters) (query : List (List (List ℕ))) (rows : List Row) → length (evaluated_rows p rows query) ≡ planes_of p (bundle_counts rows)
+pub length-evaluated : (p : Parameters) (query : List (List (List ℕ))) (rows : List Row) → length (evaluated_rows p rows query) ≡ reply_planes p (bundle_counts rows)
 unfolding evaluated_rows
 length-evaluated p query rows = length-from p query 0 rows
 
@@ -78,7 +78,7 @@ unfolding reply_body
 body-of p rows query cts counts numbers evaluated = λ i. reply_bytes p (numbers i) (evaluated i)
 
 -- it has 16 bytes at most, and 81920 for each plane
-pub body-short : (p : Parameters) (body counts : List ℕ) → p.rows ≤ 4 → planes_of p counts ≤ 64 → IsReply p body → reply_counts p body ≡ counts → length body ≤ longest_body
+pub body-short : (p : Parameters) (body counts : List ℕ) → p.rows ≤ 4 → reply_planes p counts ≤ 64 → IsReply p body → reply_counts p body ≡ counts → length body ≤ longest_body
 body-short p body counts rows few whole back =
     let size : length body ≡ reply_length p counts = whole.head.size ∙ ap (reply_length p) back in
     omega (arith, size, few, rows)

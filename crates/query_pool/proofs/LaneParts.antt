@@ -8,7 +8,7 @@ use Rattle.psi_bundle.specs.declared.history.Entry.{Entry}
 use Rattle.psi_bundle.specs.Histories.{replay}
 use Rattle.psi_turnstile.specs.Counting.{IsPrefix}
 use Rattle.query_codec.specs.Replies.{reply_body}
-use Rattle.psi_frames.specs.Requests.{query_of}
+use Rattle.psi_frames.specs.Requests.{asked_ciphertexts}
 use Rattle.psi_frames.specs.Served.{Exchange}
 use Rattle.live_sender.specs.declared.origin.Origin.{Origin}
 use Rattle.live_sender.specs.Histories.{first_version}
@@ -37,7 +37,7 @@ lane_part_of z given history v w es lane behind front =
       evaluated = λ i d lt x body place told.
           let le : x ≤ length w.seen = omega (arith, (lane.placed i d lt x place).1) in
           lane.evaluated i d lt x body place told
-          ∙ ap (λ (h : List Entry). reply_body z.parameters (replay (first_version z) h).rows (query_of (slice_index_or es i d).request))
+          ∙ ap (λ (h : List Entry). reply_body z.parameters (replay (first_version z) h).rows (asked_ciphertexts (slice_index_or es i d).request))
           (sym (ap (take x) front.1 ∙ take-append-le x w.seen front.0 le));
       full = λ i d lt refused. omega (arith, lane.full i d lt refused, size);
       froms = λ i d lt from x told place. let far = lane.froms i d lt from x told place in (omega (arith, behind, far.0), far.1);

@@ -14,7 +14,7 @@ use Rattle.psi_frames.specs.declared.reply.Reply.{Reply}
 use Rattle.psi_frames.specs.declared.reply.Reply.TheVariants as reply
 use Rattle.psi_frames.specs.declared.request.Request.{Request}
 use Rattle.psi_frames.specs.declared.request.Request.TheVariants as request
-use Rattle.psi_frames.specs.Requests.{IsFit, call_of, code_of, is_repack, journal_full, query_of}
+use Rattle.psi_frames.specs.Requests.{IsFit, call_of, code_of, is_repack, journal_full, asked_ciphertexts}
 use Rattle.psi_frames.specs.Served.{Exchange, HasPlaceOrIsFull, IsEvaluated, IsRecorded, PlacesRise, SeesOwn, Sent, StaysFull, addressed, all_places, from_of, from_or_zero, place_of}
 use Rattle.psi_frames.proofs.Lanes.{paired}
 use Rattle.psi_frames.proofs.LaneServes.{next_entry}
@@ -36,7 +36,7 @@ one-none e is = rw is refl
 -- ---- one request
 
 module _ (z : Origin) (v w : Known) (r : Request) (c : Call) (told : Reply) (goes : GoesOn z v w) (uncoded : code_of r ≡ None) (calls : call_of r (from_or_zero told) ≡ Some c)
-    (repacks : is_repack r ≡ true → IsSome (place_of told) → IsSome (from_of told)) (from : IsToldFrom v told) (body : IsBodyAt z w.seen (query_of r) told) where
+    (repacks : is_repack r ≡ true → IsSome (place_of told) → IsSome (from_of told)) (from : IsToldFrom v told) (body : IsBodyAt z w.seen (asked_ciphertexts r) told) where
   one-entered : IsToldEntry v w c told → IsOne z v w (lane_exchange r told)
   one-entered e =
       let x = lane_exchange r told in

@@ -7,7 +7,7 @@ use Rattle.bundle_cache.specs.Caches.{CacheOf}
 use Rattle.psi_frames.specs.declared.reply.Reply.{Reply}
 use Rattle.psi_frames.specs.declared.reply.Reply.TheVariants as reply
 use Rattle.psi_frames.specs.declared.request.Request.{Request}
-use Rattle.psi_frames.specs.OneLane.{call_on, entries_by, lane_next, lane_reply, reply_of}
+use Rattle.psi_frames.specs.OneLane.{call_on, entries_by, lane_next, lane_reply, reply_telling}
 use Rattle.psi_frames.specs.Requests.{journal_full}
 use Rattle.psi_frames.specs.Served.{journal_limit}
 use Rattle.sender_core.specs.Kept.{Contents, IsAsBefore, IsStep, version_of}
@@ -17,7 +17,7 @@ pub record IsEntered (old new : Contents CacheOf) (c : Call) (body : List ℕ) (
   pub room : length old.journal < journal_limit
   pub answer : Answer
   pub stepped : IsStep old new c answer
-  pub tells : told ≡ reply_of answer (length old.journal) body
+  pub tells : told ≡ reply_telling answer (length old.journal) body
 
 -- The journal is full, nothing changed, and the reply says so.
 pub record IsFull (old new : Contents CacheOf) (told : Reply) : Type 0 where

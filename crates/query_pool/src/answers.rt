@@ -2,7 +2,7 @@
 ghost use Rattle.std.specs.Prelude.{◌≡◌, ◌≤◌, ◌^◌, ℕ, List, None, Some, length, IfOk, OnOk};
 ghost use Rattle.psi_bundle.specs.declared.history.Answer.TheVariants.{Seen};
 ghost use Rattle.psi_frames.specs.Frames.{answer_fits};
-ghost use Rattle.psi_frames.specs.OneLane.{reply_of};
+ghost use Rattle.psi_frames.specs.OneLane.{reply_telling};
 ghost use Rattle.psi_frames.specs.Served.{answer_of, body_of, from_of, place_of};
 ghost use Rattle.psi_frames.specs.declared.reply.Reply.TheVariants.{Refused};
 ghost use Rattle.sender_core.specs.Answers.{answer_of_put, answer_of_drop, answer_of_repack, cause_at};
@@ -21,7 +21,7 @@ pub(crate) fn of_put(answer: Put, place: u64) -> Reply
     ensures answer { answer_of result ≡ Some (answer_of_put answer) }
     ensures from { from_of result ≡ None }
     ensures body { body_of result ≡ None }
-    ensures alone { (body : List ℕ) → result ≡ reply_of (answer_of_put answer) place body }
+    ensures alone { (body : List ℕ) → result ≡ reply_telling (answer_of_put answer) place body }
     ensures fits { answer_fits result }
 {
     match answer {
@@ -41,7 +41,7 @@ pub(crate) fn of_drop(answer: DropAnswer, place: u64) -> Reply
     ensures answer { answer_of result ≡ Some (answer_of_drop answer) }
     ensures from { from_of result ≡ None }
     ensures body { body_of result ≡ None }
-    ensures alone { (body : List ℕ) → result ≡ reply_of (answer_of_drop answer) place body }
+    ensures alone { (body : List ℕ) → result ≡ reply_telling (answer_of_drop answer) place body }
     ensures fits { answer_fits result }
 {
     match answer {
@@ -57,7 +57,7 @@ pub(crate) fn of_ask(place: u64, body: Body) -> Reply
     ensures answer { answer_of result ≡ Some Seen }
     ensures from { from_of result ≡ None }
     ensures body { body_of result ≡ Some body }
-    ensures alone { result ≡ reply_of Seen place body }
+    ensures alone { result ≡ reply_telling Seen place body }
     ensures fits { answer_fits result }
 {
     Reply::Answer { place, body }
@@ -69,7 +69,7 @@ pub(crate) fn of_repack(answer: RepackAnswer, place: u64, from: u64) -> Reply
     ensures answer { answer_of result ≡ Some (answer_of_repack answer) }
     ensures from { from_of result ≡ Some from }
     ensures body { body_of result ≡ None }
-    ensures alone { from ≡ place → (body : List ℕ) → result ≡ reply_of (answer_of_repack answer) place body }
+    ensures alone { from ≡ place → (body : List ℕ) → result ≡ reply_telling (answer_of_repack answer) place body }
     ensures fits { answer_fits result }
 {
     match answer {

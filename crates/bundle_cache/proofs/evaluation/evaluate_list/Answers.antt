@@ -9,7 +9,7 @@ use Rattle.psi_residue.specs.Sums.{table}
 use Rattle.negacyclic.specs.Transforms.{polynomial_of, values_of, with_products}
 use Rattle.negacyclic.proofs.TransformLaws.{IsPolynomial-values_of}
 use Rattle.psi_bundle.specs.Planes.{packed_plane}
-use Rattle.bundle_cache.specs.Queries.{modulus_at, scaled_values}
+use Rattle.bundle_cache.specs.Queries.{modulus_of_list, scaled_values}
 use Rattle.bundle_cache.proofs.Cells.{list_modulus-at}
 use Rattle.batching.proofs.Batches.{packed-polynomial}
 use Rattle.bundle_cache.proofs.Values.{list-evaluated, plain-polynomial, values-end, values-more, values-start}
@@ -17,12 +17,12 @@ use Rattle.bundle_cache.proofs.evaluation.evaluate_list.Goals as goal
 
 pub mul_acc-requires-clause-sum : goal.mul_acc-requires-clause-sum
 mul_acc-requires-clause-sum c =
-    let sum = subst (λ (xs : List ℕ). IsPolynomial (modulus_of (modulus_at c.args.list)) xs) (sym c.loop-k.invariant) (IsPolynomial-values_of (modulus_at c.args.list) _) in
+    let sum = subst (λ (xs : List ℕ). IsPolynomial (modulus_of (modulus_of_list c.args.list)) xs) (sym c.loop-k.invariant) (IsPolynomial-values_of (modulus_of_list c.args.list) _) in
     subst (λ (m : Modulus). IsPolynomial (modulus_of m) c.loop-k.sum) (sym c.list_modulus-m.ensures) sum
 
 pub inverse-requires : goal.inverse-requires
 inverse-requires c =
-    let sum = subst (λ (xs : List ℕ). IsPolynomial (modulus_of (modulus_at c.args.list)) xs) (sym c.loop-k.invariant) (IsPolynomial-values_of (modulus_at c.args.list) _) in
+    let sum = subst (λ (xs : List ℕ). IsPolynomial (modulus_of (modulus_of_list c.args.list)) xs) (sym c.loop-k.invariant) (IsPolynomial-values_of (modulus_of_list c.args.list) _) in
     subst (λ (m : Modulus). IsPolynomial (modulus_of m) c.loop-k.sum) (sym c.list_modulus-m.ensures) sum
 
 pub loop-k-init : goal.loop-k-init
@@ -31,11 +31,11 @@ loop-k-init c =
     let lists = λ (k : ℕ). list_at (ciphertext_at c.args.powers.now.query (c.args.row * c.args.cache.now.parameters.capacity + k)) c.args.list in
     c.write_constant.ensures.scaled
     ∙ (λ i. scaled_values (modulus_of (c.list_modulus-m.ensures i)) (nat_lt c.args.list 2) (c.cell.ensures.values i))
-    ∙ values-start (modulus_at c.args.list) (nat_lt c.args.list 2) factors lists
+    ∙ values-start (modulus_of_list c.args.list) (nat_lt c.args.list 2) factors lists
 
 pub loop-k-preserved : goal.loop-k-preserved
 loop-k-preserved c =
-    let m = modulus_at c.args.list in
+    let m = modulus_of_list c.args.list in
     let p = c.args.cache.now.parameters in
     let factors = packed_plane p c.args.cache.now.bins c.args.plane in
     let lists = λ (k : ℕ). list_at (ciphertext_at c.args.powers.now.query (c.args.row * p.capacity + k)) c.args.list in
@@ -48,7 +48,7 @@ loop-k-preserved c =
 
 pub returns-clause-evaluated : goal.returns-clause-evaluated
 returns-clause-evaluated c =
-    let m = modulus_at c.args.list in
+    let m = modulus_of_list c.args.list in
     let p = c.args.cache.now.parameters in
     let factors = packed_plane p c.args.cache.now.bins c.args.plane in
     let cts = λ (k : ℕ). ciphertext_at c.args.powers.now.query (c.args.row * p.capacity + k) in

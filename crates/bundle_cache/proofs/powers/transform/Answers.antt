@@ -2,7 +2,7 @@ use Rattle.std.proofs.Common.{◌≡◌, ◌∙◌, ap, sym, arith}
 use Rattle.psi_residue.specs.Ciphertexts.{list_at}
 use Rattle.psi_residue.specs.declared.numbers.Modulus.{Modulus}
 use Rattle.negacyclic.specs.Transforms.{polynomial_of}
-use Rattle.bundle_cache.specs.Queries.{modulus_at}
+use Rattle.bundle_cache.specs.Queries.{modulus_of_list}
 use Rattle.bundle_cache.proofs.Cells.{transformed-none, transformed-more, transformed-all}
 use Rattle.bundle_cache.proofs.powers.transform.Goals as goal
 
@@ -12,7 +12,7 @@ loop-list-init c = record { whole = λ lt. absurd (omega arith); lists = transfo
 pub loop-list-preserved : goal.loop-list-preserved
 loop-list-preserved c =
     let values : c.copy_from_slice.new.self ≡ list_at c.loop-list.ct c.loop-list.list = cc in
-    let undone : polynomial_of (modulus_at c.loop-list.list) c.forward.new.a ≡ list_at c.loop-list.ct c.loop-list.list
+    let undone : polynomial_of (modulus_of_list c.loop-list.list) c.forward.new.a ≡ list_at c.loop-list.ct c.loop-list.list
     = ap (λ (m : Modulus). polynomial_of m c.forward.new.a) (sym c.list_modulus.ensures) ∙ c.forward.ensures.undone ∙ values in
     record {
       whole = λ lt. c.set.ensures.whole;

@@ -2,7 +2,7 @@ use Rattle.std.proofs.Common.{rules, OnOk, ◌≡◌, ◌∙◌, sym, ap, refl, 
 use Rattle.std.proofs.lemmas.Result.{on_ok_weaker}
 use Rattle.byteorder.specs.Endian.{big_bytes}
 use Rattle.psi_frames.specs.declared.reply.Reply.{Reply}
-use Rattle.psi_frames.specs.Frames.{reply_bytes}
+use Rattle.psi_frames.specs.Frames.{reply_frame_bytes}
 use Rattle.psi_frames.proofs.Spelled.{coded, placed, placed-alone}
 use Rattle.psi_frames.proofs.writing.append_answer.Goals as goal
 
@@ -16,7 +16,7 @@ returns-in_ok-push_u32-in-Full c =
     record {
       appended = on_ok_weaker c.push_u32-in-Full.result
           (λ last. last ∙ ap (λ (t : List ℕ). t ++ cells) c.in_ok-push_u32-in-Full.ensures ∙ append_assoc begun planes cells ∙ whole
-          ∙ ap (λ (r : Reply). old ++ reply_bytes c.args.session c.args.number r) (sym c.in-Full.is))
+          ∙ ap (λ (r : Reply). old ++ reply_frame_bytes c.args.session c.args.number r) (sym c.in-Full.is))
           c.push_u32-in-Full.ensures;
     }
 
@@ -31,7 +31,7 @@ returns-in_ok-push_placed-in-Answer c =
     record {
       appended = on_ok_weaker c.extend_from_slice.result
           (λ last. last ∙ ap (λ (t : List ℕ). begun ++ t) c.items-in-Answer.ensures ∙ whole
-          ∙ ap (λ (r : Reply). old ++ reply_bytes c.args.session c.args.number r) (sym c.in-Answer.is))
+          ∙ ap (λ (r : Reply). old ++ reply_frame_bytes c.args.session c.args.number r) (sym c.in-Answer.is))
           last;
     }
 
@@ -48,7 +48,7 @@ returns-in_ok-push_u16-in-Repacked c =
           (λ last. last ∙ ap (λ (t : List ℕ). t ++ after) c.in_ok-push_u16-in-Repacked.ensures
           ∙ ap (λ (t : List ℕ). (t ++ before) ++ after) c.in_ok-push_u64-in-Repacked.ensures
           ∙ append_assoc (begun ++ from) before after ∙ append_assoc begun from (before ++ after) ∙ whole
-          ∙ ap (λ (r : Reply). old ++ reply_bytes c.args.session c.args.number r) (sym c.in-Repacked.is))
+          ∙ ap (λ (r : Reply). old ++ reply_frame_bytes c.args.session c.args.number r) (sym c.in-Repacked.is))
           c.push_u16-in-Repacked.ensures;
     }
 
@@ -62,7 +62,7 @@ returns-in_ok-push_u64-in-Moved c =
     record {
       appended = on_ok_weaker c.push_u64-in-Moved-2.result
           (λ last. last ∙ ap (λ (t : List ℕ). t ++ stamp) c.in_ok-push_u64-in-Moved.ensures ∙ append_assoc begun from stamp ∙ whole
-          ∙ ap (λ (r : Reply). old ++ reply_bytes c.args.session c.args.number r) (sym c.in-Moved.is))
+          ∙ ap (λ (r : Reply). old ++ reply_frame_bytes c.args.session c.args.number r) (sym c.in-Moved.is))
           c.push_u64-in-Moved-2.ensures;
     }
 
@@ -71,7 +71,7 @@ returns-in-Added c =
     let old = c.args.text.now.items in
     record {
       appended = on_ok_weaker c.push_placed.result
-          (λ last. placed-alone old _ 129 c.args.session c.args.number c.in-Added.place last ∙ ap (λ (r : Reply). old ++ reply_bytes c.args.session c.args.number r) (sym c.in-Added.is))
+          (λ last. placed-alone old _ 129 c.args.session c.args.number c.in-Added.place last ∙ ap (λ (r : Reply). old ++ reply_frame_bytes c.args.session c.args.number r) (sym c.in-Added.is))
           c.push_placed.ensures;
     }
 
@@ -80,7 +80,7 @@ returns-in-Replaced c =
     let old = c.args.text.now.items in
     record {
       appended = on_ok_weaker c.push_placed-in-Replaced.result
-          (λ last. placed-alone old _ 130 c.args.session c.args.number c.in-Replaced.place last ∙ ap (λ (r : Reply). old ++ reply_bytes c.args.session c.args.number r) (sym c.in-Replaced.is))
+          (λ last. placed-alone old _ 130 c.args.session c.args.number c.in-Replaced.place last ∙ ap (λ (r : Reply). old ++ reply_frame_bytes c.args.session c.args.number r) (sym c.in-Replaced.is))
           c.push_placed-in-Replaced.ensures;
     }
 
@@ -89,7 +89,7 @@ returns-in-Removed c =
     let old = c.args.text.now.items in
     record {
       appended = on_ok_weaker c.push_placed-in-Removed.result
-          (λ last. placed-alone old _ 131 c.args.session c.args.number c.in-Removed.place last ∙ ap (λ (r : Reply). old ++ reply_bytes c.args.session c.args.number r) (sym c.in-Removed.is))
+          (λ last. placed-alone old _ 131 c.args.session c.args.number c.in-Removed.place last ∙ ap (λ (r : Reply). old ++ reply_frame_bytes c.args.session c.args.number r) (sym c.in-Removed.is))
           c.push_placed-in-Removed.ensures;
     }
 
@@ -98,7 +98,7 @@ returns-in-Absent c =
     let old = c.args.text.now.items in
     record {
       appended = on_ok_weaker c.push_placed-in-Absent.result
-          (λ last. placed-alone old _ 132 c.args.session c.args.number c.in-Absent.place last ∙ ap (λ (r : Reply). old ++ reply_bytes c.args.session c.args.number r) (sym c.in-Absent.is))
+          (λ last. placed-alone old _ 132 c.args.session c.args.number c.in-Absent.place last ∙ ap (λ (r : Reply). old ++ reply_frame_bytes c.args.session c.args.number r) (sym c.in-Absent.is))
           c.push_placed-in-Absent.ensures;
     }
 
@@ -109,6 +109,6 @@ returns-in_ok-push_head-in-Refused c =
     record {
       appended = on_ok_weaker c.push_u8.result
           (λ last. last ∙ coded old begun 137 c.args.session c.args.number c.in-Refused.code c.in_ok-push_head-in-Refused.ensures
-          ∙ ap (λ (r : Reply). old ++ reply_bytes c.args.session c.args.number r) (sym c.in-Refused.is))
+          ∙ ap (λ (r : Reply). old ++ reply_frame_bytes c.args.session c.args.number r) (sym c.in-Refused.is))
           c.push_u8.ensures;
     }

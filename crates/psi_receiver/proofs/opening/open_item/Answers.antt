@@ -3,7 +3,7 @@ use Rattle.std.specs.List.{sum}
 use Rattle.std.proofs.lemmas.List.{get_or_default}
 use Rattle.noise_ledger.specs.Verdicts.{parameters_of}
 use Rattle.query_codec.proofs.QueryBodies.{all_behind}
-use Rattle.psi_receiver.specs.Openings.{Reply, opens_in, opened_label}
+use Rattle.psi_receiver.specs.Openings.{OpenedReply, opens_in, opened_label}
 use Rattle.psi_receiver.proofs.Opened.{bundle-last, planes-within, opens-told, label-told}
 use Rattle.psi_receiver.proofs.Steps.{opened_below, opened_below-none, opened_below-yes, opened_below-no, opened_below-all}
 use Rattle.psi_receiver.proofs.opening.open_item.Goals as goal
@@ -24,7 +24,7 @@ planes_of_bundle-own-requires c =
 
 pub loop-bundle-preserved : goal.loop-bundle-preserved
 loop-bundle-preserved c =
-    let reply : Reply = record { parameters = parameters_of c.args.params.now; counts = c.args.counts.now; planes = c.args.planes.now } in
+    let reply : OpenedReply = record { parameters = parameters_of c.args.params.now; counts = c.args.counts.now; planes = c.args.planes.now } in
     let number : c.bundles_before-first.result + c.from.result ≡ sum (take (c.args.x.now.position / 819) c.args.counts.now) + c.loop-bundle.bundle =
     λ i. (c.bundles_before-first.ensures.sum ∙ ap (λ (q : ℕ). sum (take (q / 819) c.args.counts.now)) c.from-row.ensures) i + c.from.ensures i in
     let own = c.planes_of_bundle-own.result.now in
@@ -51,7 +51,7 @@ loop-bundle-preserved c =
 
 pub returns : goal.returns
 returns c =
-    let reply : Reply = record { parameters = parameters_of c.args.params.now; counts = c.args.counts.now; planes = c.args.planes.now } in
+    let reply : OpenedReply = record { parameters = parameters_of c.args.params.now; counts = c.args.counts.now; planes = c.args.planes.now } in
     let count : get_or c.args.counts.now (c.from-row.result / 819) 0 ≡ get_or c.args.counts.now (c.args.x.now.position / 819) 0 = ap (λ (q : ℕ). get_or c.args.counts.now (q / 819) 0) c.from-row.ensures in
     let all : c.loop-bundle.bundle ≡ get_or c.args.counts.now (c.args.x.now.position / 819) 0 = omega (arith, count) in
     c.loop-bundle.invariant

@@ -3,14 +3,14 @@ use Rattle.std.specs.Result.{IfOk}
 use Rattle.std.proofs.lemmas.Result.{IfOk-weaker}
 use Rattle.rayon.proofs.ToStd.{slice-AllZip}
 use Rattle.noise_ledger.specs.Verdicts.{parameters_of}
-use Rattle.psi_receiver.specs.Openings.{Reply, opened_item}
+use Rattle.psi_receiver.specs.Openings.{OpenedReply, opened_item}
 use Rattle.psi_receiver.proofs.Planes.{lists-joined}
 use Rattle.psi_receiver.proofs.Writes.{all-shown}
 use Rattle.psi_receiver.proofs.opening.open_placed.Goals as goal
 
 pub returns : goal.returns
 returns g c =
-    let reply : Reply = record { parameters = parameters_of c.args.params.now; counts = c.args.counts.now; planes = c.args.planes.now } in
+    let reply : OpenedReply = record { parameters = parameters_of c.args.params.now; counts = c.args.counts.now; planes = c.args.planes.now } in
     let placed = c.args.placed.now in
     let done = c.in_ok-collect.ensures in
     let chain = rw (c.map.ensures.base, c.map.ensures.f) at done.1 in

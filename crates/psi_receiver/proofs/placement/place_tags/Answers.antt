@@ -5,7 +5,7 @@ use Rattle.item_slots.proofs.PositionLaws.{positions-below}
 use Rattle.item_slots.specs.Tags.{positions_of}
 use Rattle.cuckoo_place.specs.Placements.{IsPlacement}
 use Rattle.psi_receiver.specs.declared.placement.Placed.{Placed}
-use Rattle.psi_receiver.specs.Placements.{placed}
+use Rattle.psi_receiver.specs.Placements.{placed_tags}
 use Rattle.psi_receiver.proofs.Joined.{placed-below}
 use Rattle.psi_receiver.proofs.placement.place_tags.Goals as goal
 
@@ -17,5 +17,5 @@ place-requires-clause-below c =
 pub returns-clause-within : goal.returns-clause-within
 returns-clause-within c =
     let placement = subst (λ (sets : List (List ℕ)). IsPlacement sets c.in_ok-places.places.items) (c.deref.ensures.value ∙ c.in_ok-sets.ensures) c.in_ok-places.ensures.first.placement in
-    subst (λ (xs : List Placed). All (λ x. x.position < 819 * c.args.rows) xs) (sym (c.in_ok-at_places.ensures ∙ ap (placed c.args.tags.now) c.deref-2.ensures.value))
+    subst (λ (xs : List Placed). All (λ x. x.position < 819 * c.args.rows) xs) (sym (c.in_ok-at_places.ensures ∙ ap (placed_tags c.args.tags.now) c.deref-2.ensures.value))
     (placed-below c.args.rows c.args.tags.now c.in_ok-places.places.items c.requires.some placement)

@@ -1,5 +1,5 @@
 use Rattle.std.proofs.Common.{◌≡◌, ◌∷◌, [], ◌++◌, map, string_bytes, refl, sym, ap, ◌∙◌}
-use Rattle.psi_words.specs.Forms.{number_of, seed_of}
+use Rattle.psi_words.specs.Forms.{written_number, seed_of}
 use Rattle.psi_words.specs.Forms.Form.{Number, Seed}
 use Rattle.psi_words.specs.Grammar.{ask_row, sizes}
 use Rattle.psi_words.specs.Leads.{shown, sizes_of}
@@ -30,7 +30,7 @@ after_seed c =
 -- and the session
 after_session : (c : In_ok-session) → AreRead (shown c.args.lead.now) (sizes ++ Seed ∷ Number 0 65535 ∷ [])
     (c.deref.result.now ∷ c.deref-2.result.now ∷ c.deref-3.result.now ∷ c.deref-4.result.now ∷ c.deref-5.result.now ∷ [])
-    × (c.in_ok-session.field-0 ≡ number_of c.deref-5.result.now)
+    × (c.in_ok-session.field-0 ≡ written_number c.deref-5.result.now)
 after_session c =
     AreRead-next (shown c.args.lead.now) (sizes ++ Seed ∷ []) _ (Number 0 65535) c.number-2.result c.deref-5.result.now _ _ (after_seed (goal.at.In_ok-session c).In_ok-seed).0 c.number-2.ensures
     (sym c.read_number.ensures.value ∙ c.in_ok-session.was)

@@ -1,5 +1,5 @@
 use Rattle.std.proofs.Common.{◌≡◌, ◌∷◌, [], map, string_bytes, refl, sym, ap, ◌∙◌}
-use Rattle.psi_words.specs.Forms.{number_of}
+use Rattle.psi_words.specs.Forms.{written_number}
 use Rattle.psi_words.specs.Forms.Form.{Number}
 use Rattle.psi_words.specs.Grammar.{demo_row}
 use Rattle.psi_words.specs.Leads.{shown}
@@ -16,7 +16,7 @@ words c =
 
 -- the number was read
 after_number : (c : In_ok-number) → AreRead (shown c.args.lead.now) (Number 0 18446744073709551615 ∷ []) (c.deref.result.now ∷ [])
-    × (c.in_ok-number.number ≡ number_of c.deref.result.now)
+    × (c.in_ok-number.number ≡ written_number c.deref.result.now)
 after_number c =
     AreRead-next (shown c.args.lead.now) [] [] (Number 0 18446744073709551615) c.number.result c.deref.result.now _ _ (AreRead-nil (shown c.args.lead.now) c.requires) c.number.ensures
     (sym c.read_number.ensures.value ∙ c.in_ok-number.was)

@@ -1,5 +1,5 @@
 use Rattle.std.proofs.Common.{◌≡◌, ◌∷◌, [], ◌++◌, map, string_bytes, refl, sym, ap, ◌∙◌}
-use Rattle.psi_words.specs.Forms.{number_of}
+use Rattle.psi_words.specs.Forms.{written_number}
 use Rattle.psi_words.specs.Forms.Form.{Number}
 use Rattle.psi_words.specs.Grammar.{serve_row, sizes}
 use Rattle.psi_words.specs.Leads.{shown, sizes_of}
@@ -37,7 +37,7 @@ returns-in_err-workers-clause-judged c =
 
 -- and the workers
 after_workers : (c : In_ok-workers) → AreRead (shown c.args.lead.now) (sizes ++ Number 1 8 ∷ []) (c.deref.result.now ∷ c.deref-2.result.now ∷ c.deref-3.result.now ∷ c.deref-4.result.now ∷ [])
-    × (c.in_ok-workers.field-0 ≡ number_of c.deref-4.result.now)
+    × (c.in_ok-workers.field-0 ≡ written_number c.deref-4.result.now)
 after_workers c =
     AreRead-next (shown c.args.lead.now) sizes _ (Number 1 8) c.number.result c.deref-4.result.now _ _ (after_sizes (goal.at.In_ok-workers c).In_ok-sizes).0 c.number.ensures
     (sym c.read_number.ensures.value ∙ c.in_ok-workers.was)

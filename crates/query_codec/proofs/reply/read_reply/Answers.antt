@@ -1,7 +1,7 @@
 use Rattle.std.proofs.Common.{◌≡◌, ◌∙◌}
 use Rattle.std.proofs.lemmas.Result.{err_from_is_err_and}
 use Rattle.noise_ledger.specs.Verdicts.{parameters_of}
-use Rattle.query_codec.specs.Replies.{IsReply, planes_of, reply_head, reply_counts, reply_ciphertexts}
+use Rattle.query_codec.specs.Replies.{IsReply, reply_planes, reply_head, reply_counts, reply_ciphertexts}
 use Rattle.query_codec.proofs.QueryBodies.{AreCiphertexts-behind, no_wrong-behind}
 use Rattle.query_codec.proofs.ReplyBodies.{IsReply-from, no_reply, reply_ciphertexts-is, spelled_reply}
 use Rattle.query_codec.proofs.reply.read_reply.Goals as goal
@@ -18,7 +18,7 @@ returns-in_err-cts-clause-refused c =
     let p = err_from_is_err_and c.from_residual-in_err-cts.result c.from_residual-in_err-cts.ensures.1 in
     rw (p.1, p.2)
     (λ other r.
-    no_wrong-behind body c.head.result (reply_head params) c.planes.result (planes_of params (reply_counts params body)) c.head.ensures.head c.planes.ensures.number r.fit
+    no_wrong-behind body c.head.result (reply_head params) c.planes.result (reply_planes params (reply_counts params body)) c.head.ensures.head c.planes.ensures.number r.fit
     c.in_err-cts.field-0.0 c.in_err-cts.ensures.fault other)
 
 cts : (c : goal.After-of-cts) → c.of-cts.result ≡ reply_ciphertexts (parameters_of c.args.params.now) c.args.body.now
@@ -31,7 +31,7 @@ whole c =
     let p = parameters_of c.args.params.now in
     let body = c.args.body.now in
     IsReply-from p body c.in_ok-counts.ensures.head
-    (AreCiphertexts-behind body c.head.result (reply_head p) c.planes.result (planes_of p (reply_counts p body)) c.head.ensures.head c.planes.ensures.number c.in_ok-cts.ensures.whole)
+    (AreCiphertexts-behind body c.head.result (reply_head p) c.planes.result (reply_planes p (reply_counts p body)) c.head.ensures.head c.planes.ensures.number c.in_ok-cts.ensures.whole)
 
 pub returns-clause-ciphertexts : goal.returns-clause-ciphertexts
 returns-clause-ciphertexts c = cts c

@@ -5,7 +5,7 @@ use Rattle.psi_bundle.specs.declared.history.Call.TheVariants as call
 use Rattle.query_codec.specs.Replies.{reply_body}
 use Rattle.psi_frames.specs.declared.reply.Reply.TheVariants as reply
 use Rattle.psi_frames.specs.declared.request.Request.{Request}
-use Rattle.psi_frames.specs.Requests.{call_of, code_of, query_of}
+use Rattle.psi_frames.specs.Requests.{call_of, code_of, asked_ciphertexts}
 use Rattle.sender_core.specs.Kept.{version_of}
 use Rattle.query_pool.specs.Alone.{IsAnsweredAlone}
 use Rattle.query_pool.proofs.Calls.{answered, coded}
@@ -16,7 +16,7 @@ returns-in-Put-clause-answered g c =
     let p = parameters_of c.args.params.now in
     let old = c.args.book.now in
     let r = c.args.request in
-    let body = reply_body p (version_of old).rows (query_of r) in
+    let body = reply_body p (version_of old).rows (asked_ciphertexts r) in
     IfOk-weaker c.put.result _ (IsAnsweredAlone p old c.put.new.book r)
     (λ told h.
     answered p old c.put.new.book r (call.Put c.in-Put.tag c.in-Put.label) body told (ap code_of c.in-Put.is) (ap (λ (q : Request). call_of q (length old.journal)) c.in-Put.is) refl (h body))
@@ -27,7 +27,7 @@ returns-in-Drop-clause-answered g c =
     let p = parameters_of c.args.params.now in
     let old = c.args.book.now in
     let r = c.args.request in
-    let body = reply_body p (version_of old).rows (query_of r) in
+    let body = reply_body p (version_of old).rows (asked_ciphertexts r) in
     IfOk-weaker c.drop_tag.result _ (IsAnsweredAlone p old c.drop_tag.new.book r)
     (λ told h.
     answered p old c.drop_tag.new.book r (call.Drop c.in-Drop.tag) body told (ap code_of c.in-Drop.is) (ap (λ (q : Request). call_of q (length old.journal)) c.in-Drop.is) refl (h body))
@@ -38,7 +38,7 @@ returns-in-Ask-clause-answered g c =
     let p = parameters_of c.args.params.now in
     let old = c.args.book.now in
     let r = c.args.request in
-    let query : c.into_vec.result.items ≡ query_of r = c.into_vec.ensures ∙ sym (ap query_of c.in-Ask.is) in
+    let query : c.into_vec.result.items ≡ asked_ciphertexts r = c.into_vec.ensures ∙ sym (ap asked_ciphertexts c.in-Ask.is) in
     let asked = ap (λ (q : List (List (List ℕ))). reply_body p (version_of old).rows q) query in
     IfOk-weaker c.ask.result _ (IsAnsweredAlone p old c.ask.new.book r)
     (λ told h.
@@ -50,7 +50,7 @@ returns-in-Repack-clause-answered g c =
     let p = parameters_of c.args.params.now in
     let old = c.args.book.now in
     let r = c.args.request in
-    let body = reply_body p (version_of old).rows (query_of r) in
+    let body = reply_body p (version_of old).rows (asked_ciphertexts r) in
     IfOk-weaker c.repack.result _ (IsAnsweredAlone p old c.repack.new.book r)
     (λ told h.
     answered p old c.repack.new.book r (call.Repack c.in-Repack.row (length old.journal)) body told (ap code_of c.in-Repack.is) (ap (λ (q : Request). call_of q (length old.journal)) c.in-Repack.is) refl (h body))

@@ -5,7 +5,7 @@ use Rattle.psi_bundle.specs.Versions.{HasLabelLength}
 use Rattle.psi_bundle.specs.declared.history.Call.TheVariants as call
 use Rattle.psi_frames.specs.declared.reply.Reply.TheVariants as reply
 use Rattle.psi_frames.specs.declared.request.Request.{Request}
-use Rattle.psi_frames.specs.Requests.{IsFit, call_of, code_of, is_repack, query_of}
+use Rattle.psi_frames.specs.Requests.{IsFit, call_of, code_of, is_repack, asked_ciphertexts}
 use Rattle.query_pool.specs.Exchanges.{IsOne, lane_exchange}
 use Rattle.query_pool.proofs.Answering.{asked-one, changed-one, repacked-one}
 use Rattle.query_pool.proofs.OneByOne.{one-bad}
@@ -26,7 +26,7 @@ returns-in-Drop-clause-one g c = λ z seated.
 pub returns-in-Ask-clause-one : goal.returns-in-Ask-clause-one
 returns-in-Ask-clause-one g c = λ z seated.
     let r = c.args.numbered.request in
-    let query : c.into_vec.result.items ≡ query_of r = c.into_vec.ensures ∙ sym (ap query_of c.in-Ask.is) in
+    let query : c.into_vec.result.items ≡ asked_ciphertexts r = c.into_vec.ensures ∙ sym (ap asked_ciphertexts c.in-Ask.is) in
     asked-one z c.args.seat.now.knows c.ask.new.seat.knows r c.ask.result seated c.ask.ensures.went c.into_vec.result.items (ap code_of c.in-Ask.is)
     (λ x. ap (λ (q : Request). call_of q x) c.in-Ask.is) (ap is_repack c.in-Ask.is) query c.ask.ensures.told c.ask.ensures.from (c.ask.ensures.evaluated z seated.base)
 

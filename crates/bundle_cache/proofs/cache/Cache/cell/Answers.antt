@@ -3,7 +3,7 @@ use Rattle.std.proofs.lemmas.List.{length-take-le}
 use Rattle.psi_residue.specs.Numbers.{modulus_of}
 use Rattle.psi_residue.specs.Polynomials.{IsPolynomial}
 use Rattle.negacyclic.proofs.TransformLaws.{IsPolynomial-values_of}
-use Rattle.bundle_cache.specs.Queries.{modulus_at}
+use Rattle.bundle_cache.specs.Queries.{modulus_of_list}
 use Rattle.bundle_cache.proofs.Cells.{first-half, rest-half, even-at, odd-at}
 use Rattle.bundle_cache.proofs.cache.Cache.cell.Goals as goal
 
@@ -16,7 +16,7 @@ returns-then-list-eq0-clause-values c =
 
 pub returns-then-list-eq0-clause-reduced : goal.returns-then-list-eq0-clause-reduced
 returns-then-list-eq0-clause-reduced c =
-    subst (λ (xs : List ℕ). IsPolynomial (modulus_of (modulus_at c.args.list)) xs) (sym (returns-then-list-eq0-clause-values c)) (IsPolynomial-values_of (modulus_at c.args.list) _)
+    subst (λ (xs : List ℕ). IsPolynomial (modulus_of (modulus_of_list c.args.list)) xs) (sym (returns-then-list-eq0-clause-values c)) (IsPolynomial-values_of (modulus_of_list c.args.list) _)
 
 pub returns-else-list-eq0-clause-values : goal.returns-else-list-eq0-clause-values
 returns-else-list-eq0-clause-values c =
@@ -24,4 +24,4 @@ returns-else-list-eq0-clause-values c =
 
 pub returns-else-list-eq0-clause-reduced : goal.returns-else-list-eq0-clause-reduced
 returns-else-list-eq0-clause-reduced c =
-    subst (λ (xs : List ℕ). IsPolynomial (modulus_of (modulus_at c.args.list)) xs) (sym (returns-else-list-eq0-clause-values c)) (IsPolynomial-values_of (modulus_at c.args.list) _)
+    subst (λ (xs : List ℕ). IsPolynomial (modulus_of (modulus_of_list c.args.list)) xs) (sym (returns-else-list-eq0-clause-values c)) (IsPolynomial-values_of (modulus_of_list c.args.list) _)

@@ -4,7 +4,7 @@ use Rattle.psi_residue.specs.Polynomials.{IsPolynomial}
 use Rattle.psi_residue.specs.Ciphertexts.{ciphertext_at, list_at, list_modulus}
 use Rattle.negacyclic.specs.Transforms.{values_of}
 use Rattle.negacyclic.proofs.TransformLaws.{IsPolynomial-polynomial_of}
-use Rattle.bundle_cache.specs.Queries.{PowersOf, modulus_at}
+use Rattle.bundle_cache.specs.Queries.{PowersOf, modulus_of_list}
 use Rattle.bundle_cache.proofs.Cells.{list-of_query, values-of_query, place-within}
 use Rattle.bundle_cache.proofs.powers.Powers.list.Goals as goal
 
@@ -19,7 +19,7 @@ returns-clause-values c =
     c.residues.ensures.residues
     ∙ values-of_query kept place c.args.list c.index.result.now _ c.requires.list (omega (arith, within, size)) is
     (subst (λ (xs : List ℕ). IsPolynomial (list_modulus c.args.list) xs) c.residues.ensures.residues c.residues.ensures.below)
-    ∙ ap (λ (x : PowersOf). values_of (modulus_at c.args.list) (list_at (ciphertext_at x.query place) c.args.list)) c.self.view_is
+    ∙ ap (λ (x : PowersOf). values_of (modulus_of_list c.args.list) (list_at (ciphertext_at x.query place) c.args.list)) c.self.view_is
 
 pub returns-clause-polynomial : goal.returns-clause-polynomial
 returns-clause-polynomial c =
@@ -29,6 +29,6 @@ returns-clause-polynomial c =
     let size : length kept ≡ c.args.self.now.parameters.rows * c.args.self.now.parameters.capacity = c.self.invariant ∙ ap (λ (x : PowersOf). x.parameters.rows * x.parameters.capacity) c.self.view_is in
     let at = c.from-2.ensures ∙ ap (λ (x : PowersOf). x.parameters.capacity) c.self.view_is in
     let is = c.index.ensures ∙ (λ i. get_or kept (c.from.ensures i * at i + c.args.power) c.index.result.now) in
-    subst (λ (xs : List ℕ). IsPolynomial (modulus_of (modulus_at c.args.list)) xs)
+    subst (λ (xs : List ℕ). IsPolynomial (modulus_of (modulus_of_list c.args.list)) xs)
     (sym (list-of_query kept place c.args.list c.index.result.now _ c.requires.list (omega (arith, within, size)) is) ∙ ap (λ (x : PowersOf). list_at (ciphertext_at x.query place) c.args.list) c.self.view_is)
-    (IsPolynomial-polynomial_of (modulus_at c.args.list) (list_at c.index.result.now c.args.list))
+    (IsPolynomial-polynomial_of (modulus_of_list c.args.list) (list_at c.index.result.now c.args.list))
