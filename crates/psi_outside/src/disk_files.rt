@@ -26,9 +26,7 @@ impl<'r, R: Disk> DiskFiles<'r, R> {
 }
 
 impl<'r, R: Disk> Files for DiskFiles<'r, R> {
-    ghost files = { λ _. None };
-
-    ghost faults = { λ s. disk_faults s };
+    ghost told = { λ s. record { files = None; faults = disk_faults s } };
 
     fn read_file(&mut self, alloc: Global, name: &str, max: u64) -> Result<Vec<u8>, FileFault> {
         let answer = read_opened(File::open(self.rt, name), alloc, max);

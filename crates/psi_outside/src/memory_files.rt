@@ -1,6 +1,6 @@
 ghost use Rattle.std.specs.Prelude.{◌≡◌, ◌<◌, ◌≤◌, ◌^◌, ◌||◌, ◌↔◌, length, IsTrue, IfOk, IfErr, IfSome, IsErrOf, IsSomeAnd, false, is_none, option_map};
 ghost use Rattle.psi_outside.specs.Causes.{HasFileCause};
-ghost use Rattle.psi_outside.specs.InMemory.{file_entries, file_map, DifferInName};
+ghost use Rattle.psi_outside.specs.InMemory.{file_entries, file_map, files_told, DifferInName};
 ghost use Rattle.psi_outside.specs.Names.{file_at, CarriesLimit};
 ghost use Rattle.psi_outside.specs.Plans.{new_plan, is_listed, after_call};
 
@@ -41,9 +41,7 @@ impl MemoryFiles {
 impl Files for MemoryFiles {
     ghost use Rattle.std.specs.Prelude.{Some};
 
-    ghost files = { λ s. Some (file_map s.entries) };
-
-    ghost faults = { λ s. s.plan.faults };
+    ghost told = { λ s. files_told s };
 
     fn read_file(&mut self, alloc: Global, name: &str, max: u64) -> Result<Vec<u8>, FileFault>
         requires { max < 2 ^ 40 }

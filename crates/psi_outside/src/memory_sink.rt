@@ -1,6 +1,7 @@
 ghost use Rattle.std.specs.Prelude.{◌≡◌, ◌<◌, ◌≤◌, ◌+◌, ◌^◌, ◌||◌, [], length, nat_lt, Some, is_err, is_some, IfOk, OnOk, OnErr, IsSome};
 ghost use Rattle.std.specs.Io.KnownBytes.{Keeps, WriteAppends};
 ghost use Rattle.psi_outside.specs.Causes.{HasCause};
+ghost use Rattle.psi_outside.specs.InMemory.{sink_told};
 ghost use Rattle.psi_outside.specs.Plans.{new_plan, is_listed, after_call};
 ghost use Rattle.psi_outside.specs.Streams.{IsAllFlushed};
 
@@ -56,11 +57,7 @@ impl MemorySink {
 }
 
 impl Sink for MemorySink {
-    ghost written = { λ s. Some s.written };
-
-    ghost flushed = { λ s. Some s.flushed };
-
-    ghost faults = { λ s. s.plan.faults };
+    ghost told = { λ s. sink_told s };
 
     fn write(&mut self, piece: &[u8]) -> Result<usize, Failed>
         requires { 0 < length piece.now }

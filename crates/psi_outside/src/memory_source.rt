@@ -2,6 +2,7 @@ ghost use Rattle.std.specs.Prelude.{◌≡◌, ◌<◌, ◌≤◌, length, min, 
 ghost use Rattle.std.specs.Io.{ReadsAtMost};
 ghost use Rattle.std.specs.Io.KnownBytes.{Keeps, ReadConsumes};
 ghost use Rattle.psi_outside.specs.Causes.{HasCause};
+ghost use Rattle.psi_outside.specs.InMemory.{source_told};
 ghost use Rattle.psi_outside.specs.Plans.{new_plan, is_listed, after_call};
 ghost use Rattle.psi_outside.specs.Streams.{EndsExactly};
 
@@ -48,9 +49,7 @@ impl MemorySource {
 }
 
 impl Source for MemorySource {
-    ghost left = { λ s. Some s.left };
-
-    ghost faults = { λ s. s.plan.faults };
+    ghost told = { λ s. source_told s };
 
     fn read(&mut self, buf: &mut [u8]) -> Result<usize, Failed>
         requires { 0 < length buf.old }

@@ -22,9 +22,7 @@ impl<R: Read> ReaderSource<R> {
 }
 
 impl<R: Read> Source for ReaderSource<R> {
-    ghost left = { λ s. R.remaining (source_reader s) };
-
-    ghost faults = { λ s. reader_faults s };
+    ghost told = { λ s. record { left = R.remaining (source_reader s); faults = reader_faults s } };
 
     fn read(&mut self, buf: &mut [u8]) -> Result<usize, Failed> {
         match self.reader.read(buf) {

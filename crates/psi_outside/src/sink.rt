@@ -1,7 +1,7 @@
-ghost use Rattle.std.specs.Prelude.{◌≡◌, ◌<◌, ◌≤◌, ℕ, List, length, is_some, IfOk, OnOk, OnErr, IsSome};
-ghost use Rattle.std.specs.declared.option.Option.{Option};
+ghost use Rattle.std.specs.Prelude.{◌≡◌, ◌<◌, ◌≤◌, length, is_some, IfOk, OnOk, OnErr, IsSome};
 ghost use Rattle.std.specs.Io.KnownBytes.{Keeps, WriteAppends};
 ghost use Rattle.psi_outside.specs.Causes.{HasCause};
+ghost use Rattle.psi_outside.specs.Ends.{SinkTold};
 ghost use Rattle.psi_outside.specs.Streams.{IsAllFlushed};
 
 use crate::Failed;
@@ -11,14 +11,9 @@ use crate::Failed;
 /// It counts its faults. A caller that is generic over sinks cannot raise that count, so `Failed` in a caller's answer
 /// can be tied to a sink that did fail.
 pub trait Sink {
-    /// All bytes written so far, where the sink tells them.
-    ghost written: { Self → Option (List ℕ) };
-
-    /// How many of the bytes written were flushed, where the sink tells it.
-    ghost flushed: { Self → Option ℕ };
-
-    /// How many writes and flushes have failed. It stands still at the last number of 64 bits.
-    ghost faults: { Self → ℕ };
+    /// All bytes written so far and how many of them were flushed, where the sink tells them, and how many writes and flushes
+    /// have failed. That count stands still at the last number of 64 bits.
+    ghost told: { Self → SinkTold };
 
     /// Appends the first bytes of `piece`, which is not empty, and answers how many these are, one at least.
     ///
@@ -27,18 +22,18 @@ pub trait Sink {
         requires { 0 < length piece.now }
         ensures some { IfOk result (λ count. 1 ≤ count) }
         ensures bound { IfOk result (λ count. count ≤ length piece.now) }
-        ensures bytes { WriteAppends (written self.old) (written self.new) result piece.now }
-        ensures told { IsSome (written self.old) → IsSome (written self.new) }
-        ensures flushed { flushed self.new ≡ flushed self.old }
-        ensures cause { HasCause (faults self.old) (faults self.new) result };
+        ensures bytes { WriteAppends (told self.old).written (told self.new).written result piece.now }
+        ensures told { IsSome (told self.old).written → IsSome (told self.new).written }
+        ensures flushed { (told self.new).flushed ≡ (told self.old).flushed }
+        ensures cause { HasCause (told self.old).faults (told self.new).faults result };
 
     /// Hands on all that was written. It appends nothing.
     ///
     /// After `Failed` as many bytes are flushed as before.
     fn flush(&mut self) -> Result<(), Failed>
-        ensures bytes { Keeps (written self.old) (written self.new) }
-        ensures all { OnOk result (IsAllFlushed (written self.new) (flushed self.new)) }
-        ensures refused { OnErr result (flushed self.new ≡ flushed self.old) }
-        ensures told { is_some (flushed self.new) ≡ is_some (flushed self.old) }
-        ensures cause { HasCause (faults self.old) (faults self.new) result };
+        ensures bytes { Keeps (told self.old).written (told self.new).written }
+        ensures all { OnOk result (IsAllFlushed (told self.new).written (told self.new).flushed) }
+        ensures refused { OnErr result ((told self.new).flushed ≡ (told self.old).flushed) }
+        ensures told { is_some (told self.new).flushed ≡ is_some (told self.old).flushed }
+        ensures cause { HasCause (told self.old).faults (told self.new).faults result };
 }

@@ -1,8 +1,8 @@
-ghost use Rattle.std.specs.Prelude.{◌≡◌, ◌<◌, ℕ, List, length, OnErr, IsSome};
-ghost use Rattle.std.specs.declared.option.Option.{Option};
+ghost use Rattle.std.specs.Prelude.{◌≡◌, ◌<◌, length, OnErr, IsSome};
 ghost use Rattle.std.specs.Io.{ReadsAtMost};
 ghost use Rattle.std.specs.Io.KnownBytes.{Keeps, ReadConsumes};
 ghost use Rattle.psi_outside.specs.Causes.{HasCause};
+ghost use Rattle.psi_outside.specs.Ends.{SourceTold};
 ghost use Rattle.psi_outside.specs.Streams.{EndsExactly};
 
 use crate::Failed;
@@ -12,11 +12,9 @@ use crate::Failed;
 /// It counts its faults. A caller that is generic over sources cannot raise that count, so `Failed` in a caller's answer
 /// can be tied to a source that did fail.
 pub trait Source {
-    /// The bytes that are left, where the source tells them.
-    ghost left: { Self → Option (List ℕ) };
-
-    /// How many reads have failed. It stands still at the last number of 64 bits.
-    ghost faults: { Self → ℕ };
+    /// The bytes that are left, where the source tells them, and how many reads have failed. That count stands still at the
+    /// last number of 64 bits.
+    ghost told: { Self → SourceTold };
 
     /// Moves the next bytes into the front of `buf`, which is not empty, and answers how many these are.
     ///
@@ -24,9 +22,9 @@ pub trait Source {
     fn read(&mut self, buf: &mut [u8]) -> Result<usize, Failed>
         requires { 0 < length buf.old }
         ensures bound { ReadsAtMost result buf.new }
-        ensures bytes { ReadConsumes (left self.old) (left self.new) result buf.new }
-        ensures end { EndsExactly (left self.old) result }
-        ensures refused { OnErr result (Keeps (left self.old) (left self.new)) }
-        ensures told { IsSome (left self.old) → IsSome (left self.new) }
-        ensures cause { HasCause (faults self.old) (faults self.new) result };
+        ensures bytes { ReadConsumes (told self.old).left (told self.new).left result buf.new }
+        ensures end { EndsExactly (told self.old).left result }
+        ensures refused { OnErr result (Keeps (told self.old).left (told self.new).left) }
+        ensures told { IsSome (told self.old).left → IsSome (told self.new).left }
+        ensures cause { HasCause (told self.old).faults (told self.new).faults result };
 }

@@ -23,11 +23,7 @@ impl<W: Write> WriterSink<W> {
 }
 
 impl<W: Write> Sink for WriterSink<W> {
-    ghost written = { λ s. W.contents (sink_writer s) };
-
-    ghost flushed = { λ _. None };
-
-    ghost faults = { λ s. writer_faults s };
+    ghost told = { λ s. record { written = W.contents (sink_writer s); flushed = None; faults = writer_faults s } };
 
     fn write(&mut self, piece: &[u8]) -> Result<usize, Failed> {
         match self.writer.write(piece) {

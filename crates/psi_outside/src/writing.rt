@@ -12,11 +12,11 @@ use crate::{Failed, Sink};
 /// written, and as many bytes are flushed as before. Where the answer is Ok no write and no flush failed, so the count is as before.
 #[tactic(auto, using(crate::proofs::Pieces::whole_kept))]
 pub fn write_all<K: Sink>(sink: &mut K, text: &[u8]) -> Result<(), Failed>
-    ensures written { OnOk result (Appends (K.written sink.old) (K.written sink.new) text.now) }
-    ensures flushed { OnOk result (IsAllFlushed (K.written sink.new) (K.flushed sink.new)) }
-    ensures front { OnErr result ((n : ℕ) × Appends (K.written sink.old) (K.written sink.new) (take n text.now)) }
-    ensures unflushed { OnErr result (K.flushed sink.new ≡ K.flushed sink.old) }
-    ensures cause { HasCause (K.faults sink.old) (K.faults sink.new) result }
+    ensures written { OnOk result (Appends (K.told sink.old).written (K.told sink.new).written text.now) }
+    ensures flushed { OnOk result (IsAllFlushed (K.told sink.new).written (K.told sink.new).flushed) }
+    ensures front { OnErr result ((n : ℕ) × Appends (K.told sink.old).written (K.told sink.new).written (take n text.now)) }
+    ensures unflushed { OnErr result ((K.told sink.new).flushed ≡ (K.told sink.old).flushed) }
+    ensures cause { HasCause (K.told sink.old).faults (K.told sink.new).faults result }
 {
     write_pieces(sink, text)?;
     sink.flush()
@@ -24,10 +24,10 @@ pub fn write_all<K: Sink>(sink: &mut K, text: &[u8]) -> Result<(), Failed>
 
 // Writes all of the text, piece by piece.
 fn write_pieces<K: Sink>(sink: &mut K, text: &[u8]) -> Result<(), Failed>
-    ensures written { OnOk result (Appends (K.written sink.old) (K.written sink.new) text.now) }
-    ensures front { OnErr result ((n : ℕ) × Appends (K.written sink.old) (K.written sink.new) (take n text.now)) }
-    ensures unflushed { K.flushed sink.new ≡ K.flushed sink.old }
-    ensures cause { HasCause (K.faults sink.old) (K.faults sink.new) result }
+    ensures written { OnOk result (Appends (K.told sink.old).written (K.told sink.new).written text.now) }
+    ensures front { OnErr result ((n : ℕ) × Appends (K.told sink.old).written (K.told sink.new).written (take n text.now)) }
+    ensures unflushed { (K.told sink.new).flushed ≡ (K.told sink.old).flushed }
+    ensures cause { HasCause (K.told sink.old).faults (K.told sink.new).faults result }
 {
     let mut rest = text;
     while !rest.is_empty() {

@@ -5,9 +5,9 @@ use Rattle.psi_outside.proofs.reading.read_all.Given as goal
 -- the bytes were read from the source, they are within the limit, and no read failed
 abbrev pub invariant-loop-bytes : goal.invariant-loop-bytes
 invariant-loop-bytes g l = record {
-  read : Consumes (g.S.Source.left l.initial.source) (g.S.Source.left l.source) l.bytes.items;
+  read : Consumes (g.S.Source.told l.initial.source).left (g.S.Source.told l.source).left l.bytes.items;
   bound : length l.bytes.items ≤ l.limit;
-  faults : g.S.Source.faults l.source ≡ g.S.Source.faults l.initial.source;
+  faults : (g.S.Source.told l.source).faults ≡ (g.S.Source.told l.initial.source).faults;
 }
 
 -- each turn takes a byte at least
