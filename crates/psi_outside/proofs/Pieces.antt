@@ -1,10 +1,13 @@
 -- Reading and writing piece by piece.
-use Rattle.std.specs.Prelude.{◌≡◌, ℕ, ◌-◌, List, ◌++◌, length, take, drop, Option, Some, None, Result, Ok, Err, OnErr}
+use Rattle.std.specs.Prelude.{◌≡◌, ℕ, ◌-◌, ◌≤◌, List, ◌++◌, length, take, drop, Option, Some, None, Result, Ok, Err, OnErr}
 use Rattle.std.specs.Io.KnownBytes.{Appends, Consumes, Keeps}
-use Rattle.std.proofs.Common.{sym, ap, ◌∙◌, subst, append_assoc, take-append-drop}
+use Rattle.std.proofs.Common.{sym, ap, ◌∙◌, subst, arith, append_assoc, length-append, take-append-drop}
 use Rattle.std.proofs.Math.Seq.{take-append_seam, take-length}
 use Rattle.std.proofs.KnownBytes.{Consumes-kept, Consumes-trans}
 use Rattle.std.proofs.lemmas.List.{take_rest}
+use Rattle.psi_outside.specs.declared.faults.ReadFault.{ReadFault}
+use Rattle.psi_outside.specs.declared.faults.ReadFault.TheVariants.{Failed, TooLong, NoMemory}
+use Rattle.psi_outside.specs.Reading.{IsReadCounted, IsWithin, piece_size}
 
 -- the front of the rest goes over to what is done
 pub moves_front : (all done rest : List ℕ) (n : ℕ) → all ≡ done ++ rest → all ≡ (done ++ take n rest) ++ take (length rest - n) (drop n rest)
@@ -36,6 +39,15 @@ whole_kept r a b c text h k = on_err r _ (length text, subst (Appends a c) (sym 
 -- what was taken before is a front of what was left, where the next read fails, and with a piece more, where that is not kept
 pub taken_kept : {T E : Type 0} (r : Result T E) (a b c : Option (List ℕ)) (bytes : List ℕ) → Consumes a b bytes → Keeps b c → OnErr r ((taken : List ℕ) × Consumes a c taken)
 taken_kept r a b c bytes h k = on_err r _ (bytes, Consumes-kept a b c bytes h k)
+
+-- no more than one piece past the limit was taken, where the bytes with that piece are not kept
+pub within_more : (fault : ReadFault) (a b c : Option (List ℕ)) (bytes piece : List ℕ) (limit : ℕ)
+    → IsReadCounted 0 0 fault → length bytes ≤ limit → length piece ≤ piece_size → Consumes a b bytes → Consumes b c piece → IsWithin limit a c fault
+within_more Failed a b c bytes piece limit no_fault few one h k = absurd (omega (arith, no_fault))
+within_more TooLong a b c bytes piece limit no_fault few one h k =
+    (bytes ++ piece, Consumes-trans a b c bytes piece h k, omega (arith, few, one, length-append bytes piece))
+within_more NoMemory a b c bytes piece limit no_fault few one h k =
+    (bytes ++ piece, Consumes-trans a b c bytes piece h k, omega (arith, few, one, length-append bytes piece))
 
 pub taken_more : {T E : Type 0} (r : Result T E) (a b c : Option (List ℕ)) (bytes piece : List ℕ) → Consumes a b bytes → Consumes b c piece → OnErr r ((taken : List ℕ) × Consumes a c taken)
 taken_more r a b c bytes piece h k = on_err r _ (bytes ++ piece, Consumes-trans a b c bytes piece h k)

@@ -1,6 +1,8 @@
-ghost use Rattle.std.specs.Prelude.{◌≡◌, ◌<◌, ◌≤◌, ◌^◌, length, None, IfOk, IfErr, IfSome, OnErr, IsErrOf};
+ghost use Rattle.std.specs.Prelude.{◌≡◌, ◌<◌, ◌≤◌, ◌^◌, length, None, IfOk, IfErr, IfSome, OnOk, OnErr, IsErrOf};
 ghost use Rattle.psi_outside.specs.Adapters.{disk_faults};
+ghost use Rattle.psi_outside.specs.Causes.{HasFileCause};
 ghost use Rattle.psi_outside.specs.Names.{CarriesLimit};
+ghost use Rattle.psi_outside.specs.Reading.{IsFailure};
 
 use crate::{Failed, FileFault, Files};
 use std::alloc::Global;
@@ -29,30 +31,32 @@ impl<'r, R: Disk> Files for DiskFiles<'r, R> {
     ghost told = { λ s. record { files = None; faults = disk_faults s } };
 
     fn read_file(&mut self, alloc: Global, name: &str, max: u64) -> Result<Vec<u8>, FileFault> {
-        let answer = read_opened(File::open(self.rt, name), alloc, max);
-        if let Err(FileFault::Failed) = &answer {
-            self.faults = self.faults.saturating_add(1);
-        }
-        answer
+        read_opened(File::open(self.rt, name), alloc, max, &mut self.faults)
     }
 }
 
-// Reads a file that was opened to its end. One that could not be opened is `Failed`.
+// Reads a file that was opened to its end, and counts a fault. One that could not be opened is `Failed`.
 fn read_opened<R: Read + Drop>(
     opened: io::Result<R>,
     alloc: Global,
     max: u64,
+    faults: &mut u64,
 ) -> Result<Vec<u8>, FileFault>
     requires { max < 2 ^ 40 }
+    ensures cause { HasFileCause faults.old faults.new result }
     ensures unopened { OnErr opened (IsErrOf result FileFault.Failed) }
     ensures bytes { IfOk opened (λ reader. IfOk result (λ bytes. IfSome (R.remaining reader) (λ left. left ≡ bytes.items))) }
     ensures bound { IfOk result (λ bytes. length bytes.items ≤ max) }
     ensures limit { IfErr result (CarriesLimit max) }
 {
-    let Ok(reader) = opened else {
-        return Err(FileFault::Failed);
+    let answer = match opened {
+        Ok(reader) => read_at_most(reader, alloc, max),
+        Err(_) => Err(FileFault::Failed),
     };
-    read_at_most(reader, alloc, max)
+    if let Err(FileFault::Failed) = &answer {
+        *faults = faults.saturating_add(1);
+    }
+    answer
 }
 
 // Reads to the end, but no more than one byte past `max`.
@@ -64,7 +68,17 @@ fn read_at_most<R: Read + Drop>(reader: R, alloc: Global, max: u64) -> Result<Ve
     ensures longer { IfSome (R.remaining reader) (λ left. IsErrOf result (FileFault.TooLong max) → max < length left) }
 {
     let mut bytes = Vec::new(alloc);
-    match reader.take(max + 1).read_to_end(&mut bytes) {
+    let read = reader.take(max + 1).read_to_end(&mut bytes);
+    judge(read, bytes, max)
+}
+
+// The answer by what a read to the end gave: the bytes, unless they are more than `max`, or why it failed.
+fn judge(read: io::Result<usize>, bytes: Vec<u8>, max: u64) -> Result<Vec<u8>, FileFault>
+    ensures whole { OnOk read (IfOk result (λ all. (all ≡ bytes) × (length bytes.items ≤ max))) }
+    ensures longer { OnOk read (IfErr result (λ fault. (fault ≡ FileFault.TooLong max) × (max < length bytes.items))) }
+    ensures failed { OnErr read (IsFailure result) }
+{
+    match read {
         Ok(_) if bytes.len() as u64 <= max => Ok(bytes),
         Ok(_) => Err(FileFault::TooLong { max }),
         Err(error) if error.kind() == ErrorKind::OutOfMemory => Err(FileFault::NoMemory),

@@ -11,9 +11,10 @@ const PIECE: usize = 8192;
 
 /// All bytes that a source has left, at most `limit` of them.
 ///
-/// Where the source tells its bytes, Ok gives all of them and leaves none, `TooLong` comes only where they are more
-/// than `limit`, and after each fault a front of them was taken: at most `limit` bytes where a read failed. The source's count of faults rises by one where the
-/// answer is `Failed`, and stays as it was at every other answer.
+/// Where the source tells its bytes, Ok gives all of them and leaves none, and `TooLong` comes only where they are more than
+/// `limit`. After each fault a front of them was taken: at most `limit` bytes where a read failed, and no
+/// more than 8,192 bytes past `limit` in any case, so that a longer source is refused as soon as that is seen. The
+/// source's count of faults rises by one where the answer is `Failed`, and stays as it was at every other answer.
 pub fn read_all<S: Source>(
     alloc: Global,
     source: &mut S,

@@ -7,7 +7,7 @@ use std::io::{ErrorKind, Read, Write};
 use std::sync::Wait;
 use std::test::Fail;
 use std::thread::Threads;
-use std::{fs, io};
+use std::{fs, io, thread};
 
 // What a read with room for four bytes gives, or nothing where it fails.
 fn read_four<S: Source>(alloc: Global, source: &mut S) -> Result<Option<Vec<u8>>, AllocError> {
@@ -149,6 +149,61 @@ impl Write for Blocked {
     }
 }
 
+// A writer of which the first calls fail, and which then takes all and counts its flushes.
+#[derive(Drop)]
+struct Recovering {
+    fails: u32,
+    taken: usize,
+    flushes: u32,
+}
+
+impl Recovering {
+    // A call, which fails as long as it has to.
+    fn call(&mut self) -> io::Result<()> {
+        if self.fails > 0 {
+            self.fails -= 1;
+            return Err(io::Error::from(ErrorKind::BrokenPipe));
+        }
+        Ok(())
+    }
+}
+
+impl Write for Recovering {
+    fn write(&mut self, buf: &[u8]) -> io::Result<usize> {
+        self.call()?;
+        self.taken = self.taken.saturating_add(buf.len());
+        Ok(buf.len())
+    }
+
+    fn flush(&mut self) -> io::Result<()> {
+        self.call()?;
+        self.flushes = self.flushes.saturating_add(1);
+        Ok(())
+    }
+}
+
+// A sink over a writer hands each call on: a fresh one flushes, and one that failed goes on.
+#[test]
+fn a_writer_is_flushed_and_goes_on_after_a_fault(rt: HostRuntime) {
+    let mut writer = Recovering {
+        fails: 0,
+        taken: 0,
+        flushes: 0,
+    };
+    let mut fresh = WriterSink::open(&mut writer);
+    assert_eq!(rt; fresh.flush().ok(), Some(()));
+    assert_eq!(rt; writer.flushes, 1);
+    writer.fails = 2;
+    let mut sink = WriterSink::open(&mut writer);
+    assert_eq!(rt;
+        [sink.write(b"abc").ok(), sink.write(b"abc").ok()],
+        [None, None]
+    );
+    assert_eq!(rt; sink.write(b"abc").ok(), Some(3));
+    assert_eq!(rt; sink.flush().ok(), Some(()));
+    assert_eq!(rt; (writer.taken, writer.flushes), (3, 2));
+}
+
 #[test]
 fn readers_and_writers_of_std_serve(rt: HostRuntime) -> Result<(), Fail> {
     let alloc = rt.alloc();
@@ -172,8 +227,11 @@ fn readers_and_writers_of_std_serve(rt: HostRuntime) -> Result<(), Fail> {
     Ok(())
 }
 
-// What may be used from several threads.
-fn crosses<T: Send + Sync>(_value: &T) {}
+// A value that may be used from several threads, by another one.
+fn crosses<T: Send + Sync + Drop, R: Threads + Sync>(rt: &R, value: T) -> T {
+    let (value, _) = thread::join(rt, move || value, || ());
+    value
+}
 
 fn pass_at_each_point<G: Gate, R: Threads + Wait + Sync>(gate: &G, rt: &R) {
     for point in [
@@ -189,13 +247,32 @@ fn pass_at_each_point<G: Gate, R: Threads + Wait + Sync>(gate: &G, rt: &R) {
 #[test]
 fn objects_cross_threads_and_an_open_gate_lets_pass(rt: HostRuntime) -> Result<(), Fail> {
     let alloc = rt.alloc();
-    crosses(&MemorySource::open(Vec::new(alloc), 1, Vec::new(alloc)));
-    crosses(&MemorySink::open(alloc, 0, Vec::new(alloc))?);
-    crosses(&MemoryFiles::open(Vec::new(alloc), Vec::new(alloc)));
-    crosses(&ReaderSource::open(b"".as_slice()));
-    crosses(&WriterSink::open(Vec::new(alloc)));
-    crosses(&DiskFiles::open(&rt));
-    crosses(&Open);
+    let mut source = crosses(
+        &rt,
+        MemorySource::open(b"abc".to_vec(alloc)?, 3, Vec::new(alloc)),
+    );
+    let got = read_four(alloc, &mut source)?.ok_or("failed")?;
+    assert_eq!(rt; got.as_slice(), b"abc".as_slice());
+    let mut sink = crosses(&rt, MemorySink::open(alloc, 3, Vec::new(alloc))?);
+    assert_eq!(rt; write_all(&mut sink, b"abc").ok(), Some(()));
+    let mut files = crosses(&rt, MemoryFiles::open(Vec::new(alloc), Vec::new(alloc)));
+    assert!(rt;
+        is_answer(
+            &read_within(alloc, &mut files, "a", 9),
+            Err(FileFault::Failed)
+        )
+    );
+    let mut reader = crosses(&rt, ReaderSource::open(b"abc".as_slice()));
+    assert!(rt; is_answer(&read_all(alloc, &mut reader, 3), Ok(b"abc")));
+    let mut writer = crosses(&rt, WriterSink::open(Vec::new(alloc)));
+    assert_eq!(rt; writer.write(b"abc").ok(), Some(3));
+    let mut disk = crosses(&rt, DiskFiles::open(&rt));
+    assert!(rt;
+        is_answer(
+            &read_within(alloc, &mut disk, "a", 9),
+            Err(FileFault::Failed)
+        )
+    );
     pass_at_each_point(&Open, &rt);
     Ok(())
 }
@@ -205,10 +282,15 @@ fn a_held_gate_waits_for_what_was_not_passed(rt: HostRuntime) -> Result<(), Fail
     let alloc = rt.alloc();
     let before = (Point::BeforeTurn, 0);
     let after = (Point::AfterTurn, 0);
-    // What is passed, and then whether the limit was used up and whether the hold was met.
-    let rows: [(&[(Point, u32)], bool, bool); 2] = [
-        (&[before], true, false),
-        (&[after, before], false, true),
+    // What is passed, and then whether the limit was used up and whether each of two holds was met.
+    let before_other = (Point::BeforeTurn, 1);
+    let after_other = (Point::AfterTurn, 1);
+    let rows: [(&[(Point, u32)], bool, [bool; 2]); 5] = [
+        (&[before], true, [false, false]),
+        (&[after, before], false, [true, false]),
+        (&[after_other, before], true, [false, true]),
+        (&[after_other, before_other], false, [false, true]),
+        (&[after, before_other], true, [true, false]),
     ];
     for (passes, late, met) in rows {
         let holds = vec![in alloc;
@@ -216,12 +298,17 @@ fn a_held_gate_waits_for_what_was_not_passed(rt: HostRuntime) -> Result<(), Fail
                 at: before,
                 until: after
             },
+            Hold {
+                at: before_other,
+                until: after_other
+            },
         ]?;
         let held = Held::open(8, holds);
         for &(point, index) in passes {
             held.pass(&rt, point, index);
         }
-        assert_eq!(rt; (held.late(&rt), held.met(&rt, 0)), (late, met));
+        assert_eq!(rt; held.late(&rt), late);
+        assert_eq!(rt; [held.met(&rt, 0), held.met(&rt, 1)], met);
     }
     Ok(())
 }
