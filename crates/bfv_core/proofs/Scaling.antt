@@ -8,6 +8,7 @@ use Rattle.psi_residue.specs.Polynomials.{IsPolynomial}
 use Rattle.psi_residue.specs.Ring.{product_at, product}
 use Rattle.psi_residue.specs.Residues.{composed, first_inverse, residue_of, residues_of}
 use Rattle.psi_residue.proofs.Filling.{IsFilled, IsFilled-none}
+use Rattle.negacyclic.proofs.Filled.{mod-below}
 use Rattle.negacyclic.proofs.Products.{slice_index-product}
 use Rattle.psi_residue.proofs.Congruences.{sum_congruent, product_congruent}
 use Rattle.psi_residue.proofs.Sums.{table-same, slice_index-table}
@@ -47,9 +48,6 @@ opened_by_residues a b rest whole = ap (λ (u : ℕ). u % 65537) (divided a rest
     divided a rest x e = omega arith
 
 -- the residues of a key are a polynomial
-mod-below : (a m : ℕ) → 0 < m → a % m < m
-mod-below a m positive = omega arith
-
 residue_of-below : (m : ℕ) (x : ℤ) → 0 < m → residue_of m x < m
 residue_of-below m (pos n) positive = mod-below n m positive
 residue_of-below m (negsuc n) positive = mod-below (m - suc n % m) m positive

@@ -58,7 +58,7 @@ product-assoc (suc d) (suc top) a b c positive la lb lc = product-equal m n (pro
 
 -- ---- sums
 
-slice_index-sum_modulo : (m n : ℕ) (a b : List ℕ) (i : ℕ) → i < n → get_or (sum_modulo m n a b) i 0 ≡ (get_or a i 0 + get_or b i 0) % m
+pub slice_index-sum_modulo : (m n : ℕ) (a b : List ℕ) (i : ℕ) → i < n → get_or (sum_modulo m n a b) i 0 ≡ (get_or a i 0 + get_or b i 0) % m
 unfolding sum_modulo
 slice_index-sum_modulo m n a b i lt = slice_index-table n (λ i. (get_or a i 0 + get_or b i 0) % m) i lt
 

@@ -21,7 +21,7 @@ use Rattle.psi_residue.proofs.Moduli.{modulus-positive}
 use Rattle.psi_residue.proofs.Powers.{odd_root}
 use Rattle.negacyclic.proofs.Products.{length-product, slice_index-product}
 use Rattle.negacyclic.proofs.RingValues.{odd-value}
-use Rattle.negacyclic.proofs.RingLaws.{product-values, reduced-values}
+use Rattle.negacyclic.proofs.RingLaws.{product-values, reduced-values, slice_index-sum_modulo}
 use Rattle.negacyclic.proofs.Inversion.{IsTransform, value_of_coefficients, coefficient_of_values}
 
 pub is_transform : (m : Modulus) → IsTransform (modulus_of m) 12 (root_of m) (root_inverse_of m) (degree_inverse_of m)
@@ -122,10 +122,6 @@ value-sum m n x p q r j h =
         ∙ mul-mod_first (p i + q i) (x ^ ((2 * j + 1) * i)) m
         ∙ ap (λ (u : ℕ). u % m) (parted (p i) (q i) (x ^ ((2 * j + 1) * i)))
 
-get_or-sum_modulo : (m n : ℕ) (a b : List ℕ) (i : ℕ) → i < n → get_or (sum_modulo m n a b) i 0 ≡ (get_or a i 0 + get_or b i 0) % m
-unfolding sum_modulo
-get_or-sum_modulo m n a b i lt = slice_index-table n (λ k. (get_or a k 0 + get_or b k 0) % m) i lt
-
 -- the value of a product at an odd power of a number whose n-th power is -1
 product-value_odd : (m n x : ℕ) (a b : List ℕ) (j : ℕ) → 0 < m → (x ^ n + 1) % m ≡ 0 → length a ≡ n → length b ≡ n
     → value_at_odd m n x (λ i. get_or (product m n a b) i 0) j ≡ (value_at_odd m n x (λ i. get_or a i 0) j * value_at_odd m n x (λ i. get_or b i 0) j) % m
@@ -152,7 +148,7 @@ values_of_products m sum a b whole first second =
     each j lt =
         get_or-values_of m (sum_modulo (modulus_of m) 4096 sum (product (modulus_of m) 4096 a b)) j lt
         ∙ value-sum (modulus_of m) 4096 (root_of m) (λ i. get_or sum i 0) (λ i. get_or (product (modulus_of m) 4096 a b) i 0) (λ i. get_or (sum_modulo (modulus_of m) 4096 sum (product (modulus_of m) 4096 a b)) i 0) j
-        (λ i below. get_or-sum_modulo (modulus_of m) 4096 sum (product (modulus_of m) 4096 a b) i below)
+        (λ i below. slice_index-sum_modulo (modulus_of m) 4096 sum (product (modulus_of m) 4096 a b) i below)
         ∙ sum_congruent (modulus_of m)
         (value_at_odd (modulus_of m) 4096 (root_of m) (λ i. get_or sum i 0) j) (get_or (values_of m sum) j 0)
         (value_at_odd (modulus_of m) 4096 (root_of m) (λ i. get_or (product (modulus_of m) 4096 a b) i 0) j) (get_or (values_of m a) j 0 * get_or (values_of m b) j 0)

@@ -168,9 +168,17 @@ fn values_of_x(rt: HostRuntime) {
     assert!(rt; values == x);
 }
 
+// The laws have no effect. What one of them says, at two polynomials: factors change places.
 #[test]
-fn laws(_rt: HostRuntime) {
+fn laws(rt: HostRuntime) {
     values_multiply();
     products_form_a_ring();
     transforms_multiply();
+    let m = Modulus::Q2;
+    let (a, b) = (line(m, 3, 45812820652), line(m, Q2 - 1, 22906410325));
+    let mut product = [0; N];
+    product_plain(m, &a, &b, &mut product);
+    let mut turned = [0; N];
+    product_plain(m, &b, &a, &mut turned);
+    assert!(rt; product == turned);
 }
