@@ -99,7 +99,7 @@ impl Ciphertext {
 }
 
 /// The modulus of residue list number `list`.
-pub fn list_modulus(list: u8) -> Modulus
+pub(crate) fn list_modulus(list: u8) -> Modulus
     ensures { modulus_of result ≡ list_modulus list }
 {
     if list % 2 == 0 {

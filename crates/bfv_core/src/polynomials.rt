@@ -9,7 +9,7 @@ use negacyclic::mul_acc;
 use psi_residue::{DELTA, Modulus, N, value};
 
 /// The residue of a small whole number.
-pub fn residue(m: Modulus, x: i8) -> u64
+pub(crate) fn residue(m: Modulus, x: i8) -> u64
     ensures residue { result ≡ residue_of (modulus_of m) x }
     ensures below { result < modulus_of m }
 {
@@ -18,7 +18,7 @@ pub fn residue(m: Modulus, x: i8) -> u64
 }
 
 /// The residues of small whole numbers.
-pub fn write_residues(m: Modulus, xs: &[i8], out: &mut [u64])
+pub(crate) fn write_residues(m: Modulus, xs: &[i8], out: &mut [u64])
     requires given { length xs.now ≡ ring_degree }
     requires places { length out.now ≡ ring_degree }
     ensures residues { out.new ≡ residues_of (modulus_of m) xs.now }
@@ -31,7 +31,7 @@ pub fn write_residues(m: Modulus, xs: &[i8], out: &mut [u64])
 
 /// A number below twice the modulus, reduced.
 #[inline(always)]
-pub fn reduced(modulus: u64, x: u64) -> u64
+pub(crate) fn reduced(modulus: u64, x: u64) -> u64
     requires { x < 2 * modulus }
     ensures residue { result ≡ x % modulus }
     ensures below { result < modulus }
@@ -40,7 +40,7 @@ pub fn reduced(modulus: u64, x: u64) -> u64
 }
 
 /// Adds a polynomial to another one.
-pub fn add_to(m: Modulus, a: &[u64], out: &mut [u64])
+pub(crate) fn add_to(m: Modulus, a: &[u64], out: &mut [u64])
     requires first { IsPolynomial (modulus_of m) a.now }
     requires second { IsPolynomial (modulus_of m) out.now }
     ensures sum { out.new ≡ added (modulus_of m) a.now out.old }
@@ -53,7 +53,7 @@ pub fn add_to(m: Modulus, a: &[u64], out: &mut [u64])
 }
 
 /// A plaintext's coefficients in words of 64 bits.
-pub fn write_wide(plain: &[u32], out: &mut [u64])
+pub(crate) fn write_wide(plain: &[u32], out: &mut [u64])
     requires { length plain.now ≡ length out.now }
     ensures { out.new ≡ plain.now }
 {
@@ -63,7 +63,7 @@ pub fn write_wide(plain: &[u32], out: &mut [u64])
 }
 
 /// Adds the scale times a plaintext to a polynomial.
-pub fn add_scaled_to(m: Modulus, plain: &[u32], out: &mut [u64])
+pub(crate) fn add_scaled_to(m: Modulus, plain: &[u32], out: &mut [u64])
     requires plaintext { IsPolynomial plain_modulus plain.now }
     requires polynomial { IsPolynomial (modulus_of m) out.now }
     ensures sum { out.new ≡ added (modulus_of m) out.old (scaled (modulus_of m) plain.now) }

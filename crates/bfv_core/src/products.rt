@@ -9,7 +9,7 @@ use negacyclic::{forward, inverse, mul_acc};
 use psi_residue::{Modulus, N};
 
 /// Writes the product of `a` and the polynomial that has the given values.
-pub fn times_values(m: Modulus, a: &[u64], values: &[u64], out: &mut [u64])
+pub(crate) fn times_values(m: Modulus, a: &[u64], values: &[u64], out: &mut [u64])
     requires first { IsPolynomial (modulus_of m) a.now }
     requires second { IsPolynomial (modulus_of m) values.now }
     requires room { length out.old ≡ ring_degree }
@@ -26,7 +26,7 @@ pub fn times_values(m: Modulus, a: &[u64], values: &[u64], out: &mut [u64])
 }
 
 /// Writes the product of `a` and `b`.
-pub fn write_product(m: Modulus, a: &[u64], b: &[u64], out: &mut [u64])
+pub(crate) fn write_product(m: Modulus, a: &[u64], b: &[u64], out: &mut [u64])
     requires first { IsPolynomial (modulus_of m) a.now }
     requires second { IsPolynomial (modulus_of m) b.now }
     requires room { length out.old ≡ ring_degree }

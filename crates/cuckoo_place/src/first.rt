@@ -90,7 +90,7 @@ fn lower_last(
 }
 
 // The first placement, from any placement.
-pub fn first_places(
+pub(crate) fn first_places(
     alloc: Global,
     sets: &[Positions],
     holders: &mut [Option<u32>],

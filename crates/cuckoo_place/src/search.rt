@@ -82,7 +82,7 @@ fn settle(
 }
 
 // Places an item by a search that has visited no position yet.
-pub fn settle_anew(
+pub(crate) fn settle_anew(
     sets: &[Positions],
     fixed: &[u16],
     holders: &mut [Option<u32>],
@@ -144,7 +144,7 @@ fn reached(
 }
 
 // Places all items, at whichever of their positions.
-pub fn settle_all(
+pub(crate) fn settle_all(
     alloc: Global,
     sets: &[Positions],
     holders: &mut [Option<u32>],

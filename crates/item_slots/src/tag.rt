@@ -10,7 +10,7 @@ use sha2::{Digest, Sha256};
 use std::marker::Model;
 
 /// The number of bins of a row.
-pub const BINS: u32 = 819;
+pub(crate) const BINS: u32 = 819;
 
 /// The tag of an item: the first 22 bytes of its SHA-256. Tags are ordered by their bytes.
 #[derive(Clone, Copy, PartialEq, Eq, PartialOrd, Ord)]

@@ -34,7 +34,7 @@ pub(crate) use factors;
 /// `x` times the factor, modulo `q` but for one `q`: it is below twice the modulus. The difference of two products is
 /// taken in 64 bits, where it fits though they do not.
 #[inline(always)]
-pub fn product(q: u64, factor: Factor, x: u64) -> u64
+pub(crate) fn product(q: u64, factor: Factor, x: u64) -> u64
     requires modulus { q < 2 ^ 62 }
     requires factor { IsFactor q factor.number factor.quotient }
     ensures product { result % q ≡ (x * factor.number) % q }
@@ -47,7 +47,7 @@ pub fn product(q: u64, factor: Factor, x: u64) -> u64
 
 /// `x` times the factor, modulo `q`.
 #[inline(always)]
-pub fn reduced_product(q: u64, factor: Factor, x: u64) -> u64
+pub(crate) fn reduced_product(q: u64, factor: Factor, x: u64) -> u64
     requires modulus { q < 2 ^ 62 }
     requires factor { IsFactor q factor.number factor.quotient }
     ensures product { result ≡ (x * factor.number) % q }

@@ -191,7 +191,7 @@ fn last_pass(q: u64, one: Factor, factors: &[Factor; N], from: &[u64], to: &mut 
 
 /// Writes the values at the odd powers of the root whose powers the factors are, reduced.
 #[inline(never)]
-pub fn values(q: u64, one: Factor, factors: &[Factor; N], a: &mut [u64])
+pub(crate) fn values(q: u64, one: Factor, factors: &[Factor; N], a: &mut [u64])
     requires modulus { q < 2 ^ 40 }
     requires one { IsFactor q one.number one.quotient × (one.number ≡ 1) }
     requires factors { AreFactors q factors.now }

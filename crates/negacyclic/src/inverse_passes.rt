@@ -165,7 +165,7 @@ fn scale(q: u64, factor: Factor, a: &mut [u64])
 /// Writes the coefficients of the polynomial that has the given values at the odd powers of the root whose powers the
 /// factors are, reduced. `degree_inverse` is the inverse of 4096.
 #[inline(never)]
-pub fn coefficients(q: u64, degree_inverse: Factor, factors: &[Factor; N], a: &mut [u64])
+pub(crate) fn coefficients(q: u64, degree_inverse: Factor, factors: &[Factor; N], a: &mut [u64])
     requires modulus { q < 2 ^ 40 }
     requires degree_inverse { IsFactor q degree_inverse.number degree_inverse.quotient }
     requires factors { AreFactors q factors.now }

@@ -23,7 +23,7 @@ pub struct Plan {
 }
 
 /// The plan of a modulus.
-pub fn plan_of(m: Modulus) -> Plan
+pub(crate) fn plan_of(m: Modulus) -> Plan
     ensures { IsPlan (modulus_of m) (root_of m) (degree_inverse_of m) result }
 {
     match m {

@@ -6,7 +6,7 @@ use std::alloc::{AllocError, Global};
 use std::sync::Arc;
 
 // So many handles of one value.
-pub fn repeated<T: Drop>(
+pub(crate) fn repeated<T: Drop>(
     alloc: Global,
     count: usize,
     value: &Arc<T>,
@@ -21,7 +21,7 @@ pub fn repeated<T: Drop>(
 }
 
 // Handles of the same values, with another one at place `i`.
-pub fn with_one<T: Drop>(
+pub(crate) fn with_one<T: Drop>(
     alloc: Global,
     handles: &[Arc<T>],
     i: usize,
