@@ -1,7 +1,12 @@
 //! The traits by which the product meets the outside, each with a count of faults: a source and a sink of bytes, files
 //! that are read whole, and a gate that threads pass. Beside each stand an object in memory, which fails or holds back when
-//! it is told to, and, but for the gate, an adapter over std. Over any source and sink, `read_all` reads to the end and `write_all` writes a
-//! whole text.
+//! it is told to, and, but for the gate, an adapter over std. Over any source and sink, `read_all` reads to the end and
+//! `write_all` writes a whole text.
+//!
+//! A call answers `Failed` only where the object's own count rose, so that a caller which is generic over the trait cannot invent a
+//! fault. What a source, a sink or files tell at one moment is one value of the trait, `told` (the bytes that are left, written or
+//! flushed, where they are told, and the count): a contract speaks of `S.told source.old` and `S.told source.new`. Over std's readers
+//! and writers nothing is known of the bytes beyond what these tell.
 #![tactic(auto)]
 
 mod disk_files;

@@ -9,3 +9,4 @@ pub mod RootPolynomials
 pub mod Interpolation
 pub mod Ciphertexts
 pub mod Evaluations
+pub mod ShortCiphertexts
