@@ -88,7 +88,9 @@ fn add_list(sum: &mut Ciphertext, list: u8, p: &[u64], residues: &[u64])
     requires in_range { list < 4 }
     requires plaintext { IsPolynomial plain_modulus p.now }
     requires below { IsPolynomial (modulus_of_list list) residues.now }
-    ensures sum { sum.new ≡ slice_set sum.old list (added (modulus_of_list list) (list_at sum.old list) (product (modulus_of_list list) ring_degree p.now residues.now)) }
+    ensures sum { sum.new ≡ slice_set sum.old list
+        (added (modulus_of_list list) (list_at sum.old list)
+        (product (modulus_of_list list) ring_degree p.now residues.now)) }
     ensures whole { IsCiphertext sum.new }
 {
     let m = list_modulus(list);
@@ -102,7 +104,9 @@ fn add_list(sum: &mut Ciphertext, list: u8, p: &[u64], residues: &[u64])
 fn add_scaled(sum: &mut Ciphertext, list: u8, p: &[u32])
     requires in_range { list < 4 }
     requires plaintext { IsPolynomial plain_modulus p.now }
-    ensures sum { sum.new ≡ slice_set sum.old list (added (modulus_of_list list) (list_at sum.old list) (scaled (modulus_of_list list) p.now)) }
+    ensures sum { sum.new ≡ slice_set sum.old list
+        (added (modulus_of_list list) (list_at sum.old list)
+        (scaled (modulus_of_list list) p.now)) }
     ensures whole { IsCiphertext sum.new }
 {
     let m = list_modulus(list);

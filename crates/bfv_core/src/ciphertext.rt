@@ -56,7 +56,8 @@ impl Ciphertext {
         requires c0_second { IsPolynomial second_modulus c0_second.items }
         requires c1_first { IsPolynomial first_modulus c1_first.items }
         requires c1_second { IsPolynomial second_modulus c1_second.items }
-        ensures lists { result ≡ c0_first.items ∷ c0_second.items ∷ c1_first.items ∷ c1_second.items ∷ [] }
+        ensures lists { result ≡ c0_first.items ∷ c0_second.items ∷ c1_first.items ∷ c1_second.items
+            ∷ [] }
         ensures whole { IsCiphertext result }
     {
         Ciphertext {

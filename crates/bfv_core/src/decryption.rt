@@ -48,7 +48,8 @@ fn write_phase(m: Modulus, key: &SecretKey, c0: &[u64], c1: &[u64], out: &mut [u
     requires first { IsPolynomial (modulus_of m) c0.now }
     requires second { IsPolynomial (modulus_of m) c1.now }
     requires places { length out.now ≡ ring_degree }
-    ensures phase { out.new ≡ table ring_degree (phase_residue (modulus_of m) key.now c0.now c1.now) }
+    ensures phase { out.new ≡ table ring_degree
+        (phase_residue (modulus_of m) key.now c0.now c1.now) }
     ensures polynomial { IsPolynomial (modulus_of m) out.new }
 {
     times_values(m, c1, key.values(m), out);

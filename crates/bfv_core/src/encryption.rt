@@ -52,7 +52,8 @@ fn hide(m: Modulus, mask: &[u64], key: &SecretKey, errors: &[i8], plain: &[u32],
     requires as_many { length errors.now ≡ ring_degree }
     requires plaintext { IsPolynomial plain_modulus plain.now }
     requires places { length out.now ≡ ring_degree }
-    ensures hidden { out.new ≡ hidden (modulus_of m) mask.now key.now (λ k. slice_index_or errors.now k (pos 0)) plain.now }
+    ensures hidden { out.new ≡ hidden (modulus_of m) mask.now key.now
+        (λ k. slice_index_or errors.now k (pos 0)) plain.now }
     ensures polynomial { IsPolynomial (modulus_of m) out.new }
 {
     times_values(m, mask, key.values(m), out);
@@ -66,7 +67,8 @@ fn hide(m: Modulus, mask: &[u64], key: &SecretKey, errors: &[i8], plain: &[u32],
 #[inline(always)]
 fn masked_error(m: Modulus, product: u64, error: i8) -> u64
     requires { product < modulus_of m }
-    ensures difference { result ≡ (residue_of (modulus_of m) error + (modulus_of m - product)) % modulus_of m }
+    ensures difference { result ≡ (residue_of (modulus_of m) error + (modulus_of m - product)) %
+        modulus_of m }
     ensures below { result < modulus_of m }
 {
     let modulus = value(m);

@@ -13,7 +13,8 @@ pub(crate) fn times_values(m: Modulus, a: &[u64], values: &[u64], out: &mut [u64
     requires first { IsPolynomial (modulus_of m) a.now }
     requires second { IsPolynomial (modulus_of m) values.now }
     requires room { length out.old ≡ ring_degree }
-    ensures product { (b : List ℕ) → IsPolynomial (modulus_of m) b → values.now ≡ values_of m b → out.new ≡ product (modulus_of m) ring_degree a.now b }
+    ensures product { (b : List ℕ) → IsPolynomial (modulus_of m) b → values.now ≡ values_of m b
+        → out.new ≡ product (modulus_of m) ring_degree a.now b }
     ensures reduced { IsPolynomial (modulus_of m) out.new }
 {
     let mut first = [0; N];

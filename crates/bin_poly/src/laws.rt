@@ -17,6 +17,7 @@ pub fn roots_stand()
 pub fn values_of_products()
     ensures values { (polynomial roots : List ℕ) (x : ℕ) → HasRoots polynomial roots
         → value_at plain_modulus polynomial x ≡ root_value roots x }
-    ensures at_roots { (polynomial roots : List ℕ) (i : ℕ) → All (λ a. a < plain_modulus) roots → HasRoots polynomial roots
+    ensures at_roots { (polynomial roots : List ℕ) (i : ℕ) → All (λ a. a < plain_modulus) roots
+        → HasRoots polynomial roots
         → i < length roots → value_at plain_modulus polynomial (slice_index roots i) ≡ 0 }
 {}

@@ -28,7 +28,8 @@ pub fn times_root(poly: &mut [u32], degree: usize, root: u16)
     requires room { degree + 1 < length poly.now }
     requires above { (k : ℕ) → degree < k → slice_index poly.now k ≡ 0 }
     requires coefficients_below { All (λ c. c < plain_modulus) poly.now }
-    ensures product { (k : ℕ) → slice_index poly.new k ≡ times_root_coefficient root (slice_index poly.old) k }
+    ensures product { (k : ℕ) → slice_index poly.new k ≡ times_root_coefficient root
+        (slice_index poly.old) k }
     ensures roots { (roots : List ℕ) → HasRoots poly.old roots → HasRoots poly.new (root ∷ roots) }
     ensures above { (k : ℕ) → degree + 1 < k → slice_index poly.new k ≡ 0 }
     ensures below { All (λ c. c < plain_modulus) poly.new }
@@ -50,11 +51,13 @@ pub fn divide_root(poly: &mut [u32], degree: usize, root: u16)
     requires above { (k : ℕ) → degree < k → slice_index poly.now k ≡ 0 }
     requires coefficients_below { All (λ c. c < plain_modulus) poly.now }
     requires is_root { value_at plain_modulus poly.now root ≡ 0 }
-    ensures quotient { (k : ℕ) → times_root_coefficient root (slice_index poly.new) k ≡ slice_index poly.old k }
+    ensures quotient { (k : ℕ) → times_root_coefficient root (slice_index poly.new) k ≡ slice_index
+        poly.old k }
     ensures only { (other : List ℕ) → All (λ c. c < plain_modulus) other
         → ((k : ℕ) → times_root_coefficient root (slice_index other) k ≡ slice_index poly.old k)
         → (k : ℕ) → slice_index other k ≡ slice_index poly.new k }
-    ensures roots { (roots : List ℕ) → All (λ a. a < 2 ^ 16) roots → HasRoots poly.old roots → HasRoots poly.new (without root roots) }
+    ensures roots { (roots : List ℕ) → All (λ a. a < 2 ^ 16) roots → HasRoots poly.old roots
+        → HasRoots poly.new (without root roots) }
     ensures above { (k : ℕ) → degree ≤ k → slice_index poly.new k ≡ 0 }
     ensures below { All (λ c. c < plain_modulus) poly.new }
 {

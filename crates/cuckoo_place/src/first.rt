@@ -51,7 +51,10 @@ fn move_last(
     requires full { IsFull sets.now places.old holders.old }
     requires own { Contains (positions_at sets.now item) to }
     ensures full { IsFull sets.now places.new holders.new }
-    ensures outcome { ((places.new ≡ slice_set places.old item to) × (to < slice_index places.old item)) ⊎ ((places.new ≡ places.old) × (to < slice_index places.old item → NoneBegins sets.now (slice_set places.old item to))) }
+    ensures outcome { ((places.new ≡ slice_set places.old item to)
+        × (to < slice_index places.old item))
+        ⊎ ((places.new ≡ places.old) × (to < slice_index places.old item
+        → NoneBegins sets.now (slice_set places.old item to))) }
 {
     let from = places[item as usize];
     if to >= from {
@@ -82,7 +85,8 @@ fn lower_last(
     requires full { IsFull sets.now places.old holders.old }
     ensures full { IsFull sets.now places.new holders.new }
     ensures kept { (i : ℕ) → i < item → slice_index places.new i ≡ slice_index places.old i }
-    ensures least { (q : ℕ) → Contains (positions_at sets.now item) q → q < slice_index places.new item → NoneBegins sets.now (slice_set places.new item q) }
+    ensures least { (q : ℕ) → Contains (positions_at sets.now item) q
+        → q < slice_index places.new item → NoneBegins sets.now (slice_set places.new item q) }
 {
     for to in sets[item as usize].list() {
         move_last(sets, places, holders, seen, item, *to);

@@ -38,7 +38,10 @@ fn vacate(
     requires within { place < length holders.old }
     requires visited { IsSeen seen.old place }
     ensures still { IsSeenStill seen.old seen.new }
-    ensures outcome { MatchBool result (IsVacated (length sets.now) (choices_of sets.now fixed.now) seen.old holders.old holders.new place) (IsNotVacated (choices_of sets.now fixed.now) holders.old holders.new seen.old seen.new place) }
+    ensures outcome { MatchBool result
+        (IsVacated (length sets.now) (choices_of sets.now fixed.now) seen.old holders.old
+        holders.new place) (IsNotVacated (choices_of sets.now fixed.now) holders.old holders.new
+        seen.old seen.new place) }
 {
     let Some(other) = holders[place] else {
         return true;
@@ -66,7 +69,10 @@ fn settle(
     requires known { item < length sets.now }
     requires unplaced { ¬ IsPlaced holders.old item }
     ensures still { IsSeenStill seen.old seen.new }
-    ensures outcome { MatchBool result (IsSettled (length sets.now) (choices_of sets.now fixed.now) seen.old holders.old holders.new item) (IsNotSettled (choices_of sets.now fixed.now) holders.old holders.new seen.old seen.new item) }
+    ensures outcome { MatchBool result
+        (IsSettled (length sets.now) (choices_of sets.now fixed.now) seen.old holders.old
+        holders.new item) (IsNotSettled (choices_of sets.now fixed.now) holders.old holders.new
+        seen.old seen.new item) }
 {
     for choice in choices(sets, fixed, item as usize) {
         let place = usize::from(*choice);
@@ -94,7 +100,9 @@ pub(crate) fn settle_anew(
     requires table { length seen.old ≡ length holders.old }
     requires known { item < length sets.now }
     requires unplaced { ¬ IsPlaced holders.old item }
-    ensures { MatchBool result (IsSettled (length sets.now) (choices_of sets.now fixed.now) [] holders.old holders.new item) (IsRefused (choices_of sets.now fixed.now) holders.old holders.new seen.new item) }
+    ensures { MatchBool result (IsSettled (length sets.now) (choices_of sets.now fixed.now) []
+        holders.old holders.new item) (IsRefused (choices_of sets.now fixed.now) holders.old
+        holders.new seen.new item) }
 {
     seen.fill(false);
     settle(sets, fixed, holders, seen, item)

@@ -63,7 +63,8 @@ impl Front {
     #[tactic(auto, unfolding(crate::specs::Tags::with_number))]
     fn and(self, x: u16) -> Front
         requires { self.len < 3 }
-        ensures listed { take result.len result.numbers ≡ with_number x (take self.len self.numbers) }
+        ensures listed { take result.len result.numbers ≡ with_number x
+            (take self.len self.numbers) }
         ensures longer { result.len ≤ self.len + 1 }
     {
         let [first, second, _] = self.numbers;

@@ -16,7 +16,8 @@ pub fn interpolate(points: &[(u32, u32)], out: &mut [u32])
     requires room { length points.now ≤ length out.now }
     requires numbers_below { All (λ p. (p.0 < plain_modulus) × (p.1 < plain_modulus)) points.now }
     requires places_differ { IsDistinct nat_eq (map (λ p. p.0) points.now) }
-    ensures coefficients { (k : ℕ) → k < length points.now → slice_index out.new k ≡ interpolated points.now k }
+    ensures coefficients { (k : ℕ) → k < length points.now
+        → slice_index out.new k ≡ interpolated points.now k }
     ensures rest { (k : ℕ) → length points.now ≤ k → slice_index out.new k ≡ 0 }
     ensures through { All (λ p. value_at plain_modulus out.new p.0 ≡ p.1) points.now }
     ensures below { All (λ c. c < plain_modulus) out.new }
@@ -32,7 +33,8 @@ fn newton_form(points: &[(u32, u32)], out: &mut [u32])
     requires numbers_below { All (λ p. (p.0 < plain_modulus) × (p.1 < plain_modulus)) points.now }
     requires places_differ { IsDistinct nat_eq (map (λ p. p.0) points.now) }
     ensures through { (i : ℕ) → i < length points.now
-        → newton_value points.now (slice_index out.new) (place_at points.now i) (length points.now) 0 % plain_modulus ≡ value_of points.now i }
+        → newton_value points.now (slice_index out.new) (place_at points.now i) (length points.now)
+        0 % plain_modulus ≡ value_of points.now i }
     ensures below { (k : ℕ) → k < length points.now → slice_index out.new k < plain_modulus }
 {
     for i in 0..points.len() {
@@ -47,8 +49,10 @@ fn newton_coefficient(points: &[(u32, u32)], coefficients: &[u32], i: usize) -> 
     requires room { length points.now ≤ length coefficients.now }
     requires numbers_below { All (λ p. (p.0 < plain_modulus) × (p.1 < plain_modulus)) points.now }
     requires places_differ { IsDistinct nat_eq (map (λ p. p.0) points.now) }
-    ensures takes { (newton_value points.now (slice_index coefficients.now) (place_at points.now i) i 0
-        + result * newton_product points.now (place_at points.now i) i 0) % plain_modulus ≡ value_of points.now i }
+    ensures takes { (newton_value points.now (slice_index coefficients.now) (place_at points.now i)
+        i 0
+        + result * newton_product points.now (place_at points.now i) i 0) % plain_modulus ≡ value_of
+        points.now i }
     ensures below { result < plain_modulus }
 {
     let (place, value) = points[i];
@@ -82,7 +86,8 @@ fn open_bracket(out: &mut [u32], i: usize, end: usize, place: u32)
     requires room { end ≤ length out.now }
     requires place_below { place < plain_modulus }
     ensures product { (k : ℕ) → i ≤ k → k + 1 < end
-        → slice_index out.new k ≡ ((plain_modulus - place) * slice_index out.old (k + 1) + slice_index out.old k) % plain_modulus }
+        → slice_index out.new k ≡ ((plain_modulus - place) * slice_index out.old
+        (k + 1) + slice_index out.old k) % plain_modulus }
     ensures before { (k : ℕ) → k < i → slice_index out.new k ≡ slice_index out.old k }
     ensures after { (k : ℕ) → end ≤ k + 1 → slice_index out.new k ≡ slice_index out.old k }
 {

@@ -16,7 +16,8 @@ fn cross(q: u64, w: Weights, x0: u64, x1: u64, x2: u64, x3: u64) -> (u64, u64, u
     requires modulus { q < 2 ^ 40 }
     requires weights { AreWeights q w }
     requires below { AreFourBelow (2 ^ 60) x0 x1 x2 x3 }
-    ensures crossed { IsCrossed q w.first.number w.second.number w.third.number x0 x1 x2 x3 result.0 result.1 result.2 result.3 }
+    ensures crossed { IsCrossed q w.first.number w.second.number w.third.number x0 x1 x2 x3 result.0
+        result.1 result.2 result.3 }
     ensures below { AreFourBelow (x0 + 4 * q + 1) result.0 result.1 result.2 result.3 }
 {
     let v2 = product(q, w.first, x2);
@@ -39,7 +40,8 @@ fn step(q: u64, w: Weights, h: usize, at: usize, place: usize, from: &[u64], to:
     requires written { length to.old ≡ 4096 }
     requires read { at + 3 * h < 4096 }
     requires place { place < 1024 }
-    ensures crossed { AreCrossed q w.first.number w.second.number w.third.number h at place from.now to.new }
+    ensures crossed { AreCrossed q w.first.number w.second.number w.third.number h at place from.now
+        to.new }
     ensures below { QuartersBelow (slice_index from.now at + 4 * q + 1) place to.new }
     ensures kept { QuartersKept place to.old to.new }
 {
@@ -85,8 +87,10 @@ fn row(q: u64, factors: &[Factor; N], l: usize, g: usize, j: usize, from: &[u64]
     requires row { j < l }
     requires given { IsPolynomial (4 * l * q) from.now }
     requires written { length to.old ≡ 4096 }
-    requires before { ArePlaced q (16 * l * q) l (4 * g) (numbers_of factors.now) from.now to.old (j * (4 * g)) }
-    ensures placed { ArePlaced q (16 * l * q) l (4 * g) (numbers_of factors.now) from.now to.new ((j + 1) * (4 * g)) }
+    requires before { ArePlaced q (16 * l * q) l (4 * g) (numbers_of factors.now) from.now to.old
+        (j * (4 * g)) }
+    ensures placed { ArePlaced q (16 * l * q) l (4 * g) (numbers_of factors.now) from.now to.new
+        ((j + 1) * (4 * g)) }
 {
     let w = weights_of(q, factors, l, j);
     let h = 4 * g;
@@ -106,7 +110,8 @@ fn pass(q: u64, factors: &[Factor; N], l: usize, g: usize, from: &[u64], to: &mu
     requires rows { l * g ≡ 256 }
     requires given { IsPolynomial (4 * l * q) from.now }
     requires written { length to.old ≡ 4096 }
-    ensures placed { ArePlaced q (16 * l * q) l (4 * g) (numbers_of factors.now) from.now to.new 1024 }
+    ensures placed { ArePlaced q (16 * l * q) l (4 * g) (numbers_of factors.now) from.now to.new
+        1024 }
     ensures below { IsPolynomial (16 * l * q) to.new }
 {
     for j in 0..l {
@@ -129,7 +134,8 @@ fn reduced_cross(
     requires one { IsFactor q one.number one.quotient × (one.number ≡ 1) }
     requires weights { AreWeights q w }
     requires below { AreFourBelow (2 ^ 60) x0 x1 x2 x3 }
-    ensures crossed { IsCrossed q w.first.number w.second.number w.third.number x0 x1 x2 x3 result.0 result.1 result.2 result.3 }
+    ensures crossed { IsCrossed q w.first.number w.second.number w.third.number x0 x1 x2 x3 result.0
+        result.1 result.2 result.3 }
     ensures below { AreFourBelow q result.0 result.1 result.2 result.3 }
 {
     let (y0, y1, y2, y3) = cross(q, w, x0, x1, x2, x3);
@@ -150,7 +156,8 @@ fn last_step(q: u64, one: Factor, w: Weights, place: usize, from: &[u64], to: &m
     requires given { IsPolynomial (4096 * q) from.now }
     requires written { length to.old ≡ 4096 }
     requires place { place < 1024 }
-    ensures crossed { AreCrossed q w.first.number w.second.number w.third.number 1 (4 * place) place from.now to.new }
+    ensures crossed { AreCrossed q w.first.number w.second.number w.third.number 1 (4 * place) place
+        from.now to.new }
     ensures below { QuartersBelow q place to.new }
     ensures kept { QuartersKept place to.old to.new }
 {
@@ -196,7 +203,8 @@ pub(crate) fn values(q: u64, one: Factor, factors: &[Factor; N], a: &mut [u64])
     requires one { IsFactor q one.number one.quotient × (one.number ≡ 1) }
     requires factors { AreFactors q factors.now }
     requires polynomial { IsPolynomial q a.old }
-    ensures values { (x : ℕ) → (x ^ 4096 + 1) % q ≡ 0 → IsTable q x (numbers_of factors.now) → a.new ≡ table 4096 (value_at_odd q 4096 x (slice_index a.old)) }
+    ensures values { (x : ℕ) → (x ^ 4096 + 1) % q ≡ 0 → IsTable q x (numbers_of factors.now)
+        → a.new ≡ table 4096 (value_at_odd q 4096 x (slice_index a.old)) }
     ensures reduced { IsPolynomial q a.new }
 {
     let mut scratch = [0; N];

@@ -17,7 +17,8 @@ fn uncross(q: u64, top: u64, w: Weights, y0: u64, y1: u64, y2: u64, y3: u64) -> 
     requires small { top < 2 ^ 60 }
     requires weights { AreWeights q w }
     requires below { AreFourBelow top y0 y1 y2 y3 }
-    ensures uncrossed { IsUncrossed q w.first.number w.second.number w.third.number y0 y1 y2 y3 result.0 result.1 result.2 result.3 }
+    ensures uncrossed { IsUncrossed q w.first.number w.second.number w.third.number y0 y1 y2 y3
+        result.0 result.1 result.2 result.3 }
     ensures below { AreFourBelow (4 * top) result.0 result.1 result.2 result.3 }
 {
     let a0 = y0 + y2;
@@ -50,7 +51,8 @@ fn step(
     requires apart { 0 < h }
     requires inside { at + 3 * h < 4096 }
     requires place { place < 1024 }
-    ensures uncrossed { AreUncrossed q w.first.number w.second.number w.third.number h at place from.now to.new }
+    ensures uncrossed { AreUncrossed q w.first.number w.second.number w.third.number h at place
+        from.now to.new }
     ensures below { StepsBelow (4 * top) h at to.new }
     ensures kept { StepsKept h at to.old to.new }
 {
@@ -115,8 +117,10 @@ fn row(q: u64, factors: &[Factor; N], l: usize, g: usize, j: usize, from: &[u64]
     requires row { j < l }
     requires given { IsPolynomial (4 * g * q) from.now }
     requires written { length to.old ≡ 4096 }
-    requires before { AreReplaced q (16 * g * q) l (4 * g) (numbers_of factors.now) from.now to.old (j * (4 * g)) }
-    ensures replaced { AreReplaced q (16 * g * q) l (4 * g) (numbers_of factors.now) from.now to.new ((j + 1) * (4 * g)) }
+    requires before { AreReplaced q (16 * g * q) l (4 * g) (numbers_of factors.now) from.now to.old
+        (j * (4 * g)) }
+    ensures replaced { AreReplaced q (16 * g * q) l (4 * g) (numbers_of factors.now) from.now to.new
+        ((j + 1) * (4 * g)) }
 {
     let w = weights_of(q, factors, l, j);
     let h = 4 * g;
@@ -137,7 +141,8 @@ fn pass(q: u64, factors: &[Factor; N], l: usize, g: usize, from: &[u64], to: &mu
     requires rows { l * g ≡ 256 }
     requires given { IsPolynomial (4 * g * q) from.now }
     requires written { length to.old ≡ 4096 }
-    ensures replaced { AreReplaced q (16 * g * q) l (4 * g) (numbers_of factors.now) from.now to.new 1024 }
+    ensures replaced { AreReplaced q (16 * g * q) l (4 * g) (numbers_of factors.now) from.now to.new
+        1024 }
     ensures below { IsPolynomial (16 * g * q) to.new }
 {
     for j in 0..l {
@@ -151,7 +156,8 @@ fn scale(q: u64, factor: Factor, a: &mut [u64])
     requires modulus { q < 2 ^ 40 }
     requires factor { IsFactor q factor.number factor.quotient }
     requires given { length a.old ≡ 4096 }
-    ensures scaled { (i : ℕ) → i < 4096 → slice_index a.new i ≡ (slice_index a.old i * factor.number) % q }
+    ensures scaled { (i : ℕ) → i < 4096
+        → slice_index a.new i ≡ (slice_index a.old i * factor.number) % q }
     ensures reduced { IsPolynomial q a.new }
 {
     for c in 0..1024 {
@@ -170,7 +176,8 @@ pub(crate) fn coefficients(q: u64, degree_inverse: Factor, factors: &[Factor; N]
     requires degree_inverse { IsFactor q degree_inverse.number degree_inverse.quotient }
     requires factors { AreFactors q factors.now }
     requires values { IsPolynomial q a.old }
-    ensures coefficients { (x y : ℕ) → (x ^ 4096 + 1) % q ≡ 0 → (y ^ 4096 + 1) % q ≡ 0 → (x * y) % q ≡ 1 % q → IsTable q x (numbers_of factors.now)
+    ensures coefficients { (x y : ℕ) → (x ^ 4096 + 1) % q ≡ 0 → (y ^ 4096 + 1) % q ≡ 0
+        → (x * y) % q ≡ 1 % q → IsTable q x (numbers_of factors.now)
         → a.new ≡ table 4096 (coefficient_from q 4096 y degree_inverse.number (slice_index a.old)) }
     ensures reduced { IsPolynomial q a.new }
 {

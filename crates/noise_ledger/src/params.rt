@@ -25,7 +25,15 @@ impl Params {
     /// The parameters with `rows` rows of bins, `capacity` members in a bin and `units` label units, of form 1, with
     /// no bits left out and nothing spare.
     pub fn of(rows: u8, capacity: u16, units: u8) -> Params
-        ensures { result ≡ record { form = 1; rows = rows; capacity = capacity; units = units; drop = 0; spare = 0 } }
+        ensures { result ≡ record {
+          form = 1;
+          rows = rows;
+          capacity = capacity;
+          units = units;
+          drop
+              = 0;
+          spare = 0;
+        } }
     {
         Params {
             form: 1,
@@ -40,7 +48,8 @@ impl Params {
     /// The parameters whose 8 bytes these are, of whatever values. There are no others with these bytes.
     pub fn from_bytes(bytes: &[u8; 8]) -> Params
         ensures read { parameter_bytes (parameters_of result) ≡ bytes.now }
-        ensures only { (p : Params) → p.capacity < 2 ^ 16 → p.spare < 2 ^ 16 → parameter_bytes (parameters_of p) ≡ bytes.now → p ≡ result }
+        ensures only { (p : Params) → p.capacity < 2 ^ 16 → p.spare < 2 ^ 16
+            → parameter_bytes (parameters_of p) ≡ bytes.now → p ≡ result }
     {
         let [form, rows, high, low, units, drop, spare_high, spare_low] = *bytes;
         Params {

@@ -84,7 +84,8 @@ fn filled_pages<V: Drop>(
     value: &Arc<V>,
 ) -> Result<Vec<Arc<Page<V>>>, AllocError>
     ensures paged { IfOk result (λ pages. IsPaged len (map arc_value pages.items)) }
-    ensures values { IfOk result (λ pages. values_of (map arc_value pages.items) ≡ replicate len (arc_value value.now)) }
+    ensures values { IfOk result (λ pages.
+        values_of (map arc_value pages.items) ≡ replicate len (arc_value value.now)) }
 {
     let full = Arc::new(alloc, Page::filled(alloc, PAGE, value)?)?;
     let mut pages = repeated(alloc, len / PAGE, &full)?;

@@ -11,7 +11,8 @@ pub(crate) fn repeated<T: Drop>(
     count: usize,
     value: &Arc<T>,
 ) -> Result<Vec<Arc<T>>, AllocError>
-    ensures { IfOk result (λ made. map arc_value made.items ≡ replicate count (arc_value value.now)) }
+    ensures { IfOk result (λ made. map arc_value made.items ≡ replicate count
+        (arc_value value.now)) }
 {
     let mut made = Vec::with_capacity(alloc, count)?;
     for _made in 0..count {
@@ -28,7 +29,8 @@ pub(crate) fn with_one<T: Drop>(
     value: Arc<T>,
 ) -> Result<Vec<Arc<T>>, AllocError>
     requires { i < length handles.now }
-    ensures { IfOk result (λ copy. map arc_value copy.items ≡ slice_set (map arc_value handles.now) i (arc_value value)) }
+    ensures { IfOk result (λ copy. map arc_value copy.items ≡ slice_set (map arc_value handles.now)
+        i (arc_value value)) }
 {
     let mut copy = copied(alloc, handles)?;
     copy[i] = value;

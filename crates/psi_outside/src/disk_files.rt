@@ -45,7 +45,8 @@ fn read_opened<R: Read + Drop>(
     requires { max < 2 ^ 40 }
     ensures cause { HasFileCause faults.old faults.new result }
     ensures unopened { OnErr opened (IsErrOf result FileFault.Failed) }
-    ensures bytes { IfOk opened (λ reader. IfOk result (λ bytes. IfSome (R.remaining reader) (λ left. left ≡ bytes.items))) }
+    ensures bytes { IfOk opened (λ reader.
+        IfOk result (λ bytes. IfSome (R.remaining reader) (λ left. left ≡ bytes.items))) }
     ensures bound { IfOk result (λ bytes. length bytes.items ≤ max) }
     ensures limit { IfErr result (CarriesLimit max) }
 {
@@ -62,10 +63,12 @@ fn read_opened<R: Read + Drop>(
 // Reads to the end, but no more than one byte past `max`.
 fn read_at_most<R: Read + Drop>(reader: R, alloc: Global, max: u64) -> Result<Vec<u8>, FileFault>
     requires { max < 2 ^ 40 }
-    ensures bytes { IfOk result (λ bytes. IfSome (R.remaining reader) (λ left. left ≡ bytes.items)) }
+    ensures bytes { IfOk result (λ bytes.
+        IfSome (R.remaining reader) (λ left. left ≡ bytes.items)) }
     ensures bound { IfOk result (λ bytes. length bytes.items ≤ max) }
     ensures limit { IfErr result (CarriesLimit max) }
-    ensures longer { IfSome (R.remaining reader) (λ left. IsErrOf result (FileFault.TooLong max) → max < length left) }
+    ensures longer { IfSome (R.remaining reader) (λ left. IsErrOf result (FileFault.TooLong max)
+        → max < length left) }
 {
     let mut bytes = Vec::new(alloc);
     let read = reader.take(max + 1).read_to_end(&mut bytes);
@@ -75,7 +78,8 @@ fn read_at_most<R: Read + Drop>(reader: R, alloc: Global, max: u64) -> Result<Ve
 // The answer by what a read to the end gave: the bytes, unless they are more than `max`, or why it failed.
 fn judge(read: io::Result<usize>, bytes: Vec<u8>, max: u64) -> Result<Vec<u8>, FileFault>
     ensures whole { OnOk read (IfOk result (λ all. (all ≡ bytes) × (length bytes.items ≤ max))) }
-    ensures longer { OnOk read (IfErr result (λ fault. (fault ≡ FileFault.TooLong max) × (max < length bytes.items))) }
+    ensures longer { OnOk read (IfErr result (λ fault. (fault ≡ FileFault.TooLong max)
+        × (max < length bytes.items))) }
     ensures failed { OnErr read (IsFailure result) }
 {
     match read {

@@ -19,11 +19,14 @@ pub trait Files {
     /// `TooLong` comes for a longer file, and carries `max`. A missing file is `Failed`.
     fn read_file(&mut self, alloc: Global, name: &str, max: u64) -> Result<Vec<u8>, FileFault>
         requires { max < 2 ^ 40 }
-        ensures bytes { IfOk result (λ bytes. IfSome (told self.old).files (λ map. file_at map name.now ≡ Some bytes.items)) }
+        ensures bytes { IfOk result (λ bytes.
+            IfSome (told self.old).files (λ map. file_at map name.now ≡ Some bytes.items)) }
         ensures bound { IfOk result (λ bytes. length bytes.items ≤ max) }
         ensures limit { IfErr result (CarriesLimit max) }
-        ensures longer { IfSome (told self.old).files (λ map. IsErrOf result (FileFault.TooLong max) → IsSomeAnd (file_at map name.now) (λ bytes. max < length bytes)) }
-        ensures missing { IfSome (told self.old).files (λ map. file_at map name.now ≡ None → IsErrOf result FileFault.Failed) }
+        ensures longer { IfSome (told self.old).files (λ map. IsErrOf result (FileFault.TooLong max)
+            → IsSomeAnd (file_at map name.now) (λ bytes. max < length bytes)) }
+        ensures missing { IfSome (told self.old).files (λ map. file_at map name.now ≡ None
+            → IsErrOf result FileFault.Failed) }
         ensures files { (told self.new).files ≡ (told self.old).files }
         ensures cause { HasFileCause (told self.old).faults (told self.new).faults result };
 }

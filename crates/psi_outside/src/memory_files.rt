@@ -45,18 +45,26 @@ impl Files for MemoryFiles {
 
     fn read_file(&mut self, alloc: Global, name: &str, max: u64) -> Result<Vec<u8>, FileFault>
         requires { max < 2 ^ 40 }
-        ensures bytes { IfOk result (λ bytes. file_at (file_map self.old.entries) name.now ≡ Some bytes.items) }
+        ensures bytes { IfOk result (λ bytes.
+            file_at (file_map self.old.entries) name.now ≡ Some bytes.items) }
         ensures bound { IfOk result (λ bytes. length bytes.items ≤ max) }
         ensures limit { IfErr result (CarriesLimit max) }
-        ensures longer { IsErrOf result (FileFault.TooLong max) → IsSomeAnd (file_at (file_map self.old.entries) name.now) (λ bytes. max < length bytes) }
-        ensures missing { file_at (file_map self.old.entries) name.now ≡ None → IsErrOf result FileFault.Failed }
+        ensures longer { IsErrOf result (FileFault.TooLong max)
+            → IsSomeAnd (file_at (file_map self.old.entries) name.now)
+            (λ bytes. max < length bytes) }
+        ensures missing { file_at (file_map self.old.entries) name.now ≡ None
+            → IsErrOf result FileFault.Failed }
         ensures files { self.new.entries ≡ self.old.entries }
         ensures cause { HasFileCause self.old.plan.faults self.new.plan.faults result }
 
         // It fails exactly where the file is missing or the plan says so, and no other longer file is passed over.
-        ensures fails { IsErrOf result FileFault.Failed ↔ IsTrue (is_none (file_at (file_map self.old.entries) name.now) || is_listed self.old.plan) }
-        ensures long { is_listed self.old.plan ≡ false → IfSome (file_at (file_map self.old.entries) name.now) (λ bytes. max < length bytes → IsErrOf result (FileFault.TooLong max)) }
-        ensures plan { self.new.plan ≡ after_call self.old.plan (is_none (file_at (file_map self.old.entries) name.now) || is_listed self.old.plan) }
+        ensures fails { IsErrOf result FileFault.Failed ↔ IsTrue
+            (is_none (file_at (file_map self.old.entries) name.now) || is_listed self.old.plan) }
+        ensures long { is_listed self.old.plan ≡ false
+            → IfSome (file_at (file_map self.old.entries) name.now) (λ bytes. max < length bytes
+            → IsErrOf result (FileFault.TooLong max)) }
+        ensures plan { self.new.plan ≡ after_call self.old.plan
+            (is_none (file_at (file_map self.old.entries) name.now) || is_listed self.old.plan) }
     {
         let file = find_file(&self.files, name);
         self.plan.call(file.is_none())?;
@@ -70,7 +78,8 @@ impl Files for MemoryFiles {
 
 // The bytes of the file of that name.
 fn find_file<'a>(files: &'a [(String, Vec<u8>)], name: &str) -> Option<&'a [u8]>
-    ensures { option_map (λ bytes. bytes.now) result ≡ file_at (file_map (file_entries files.now)) name.now }
+    ensures { option_map (λ bytes. bytes.now) result ≡ file_at (file_map (file_entries files.now))
+        name.now }
 {
     for file in files {
         if name == file.0.as_str() {

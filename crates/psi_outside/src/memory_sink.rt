@@ -63,13 +63,15 @@ impl Sink for MemorySink {
         requires { 0 < length piece.now }
         ensures some { IfOk result (λ count. 1 ≤ count) }
         ensures bound { IfOk result (λ count. count ≤ length piece.now) }
-        ensures bytes { WriteAppends (Some self.old.written) (Some self.new.written) result piece.now }
+        ensures bytes { WriteAppends (Some self.old.written) (Some self.new.written) result
+            piece.now }
         ensures told { IsSome (Some self.old.written) → IsSome (Some self.new.written) }
         ensures flushed { Some self.new.flushed ≡ Some self.old.flushed }
         ensures cause { HasCause self.old.plan.faults self.new.plan.faults result }
 
         // It fails exactly where there is no room or the plan says so, and else takes the piece whole.
-        ensures fails { is_err result ≡ (nat_lt self.old.room (length self.old.written + length piece.now) || is_listed self.old.plan) }
+        ensures fails { is_err result ≡ (nat_lt self.old.room
+            (length self.old.written + length piece.now) || is_listed self.old.plan) }
         ensures whole { IfOk result (λ count. count ≡ length piece.now) }
         ensures plan { self.new.plan ≡ after_call self.old.plan (is_err result) }
         ensures room { self.new.room ≡ self.old.room }

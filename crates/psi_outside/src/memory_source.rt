@@ -62,7 +62,8 @@ impl Source for MemorySource {
 
         // It fails exactly where the plan says so, and gives as much as it can.
         ensures fails { is_err result ≡ is_listed self.old.plan }
-        ensures count { IfOk result (λ count. count ≡ min self.old.piece (min (length self.old.left) (length buf.old))) }
+        ensures count { IfOk result (λ count.
+            count ≡ min self.old.piece (min (length self.old.left) (length buf.old))) }
         ensures plan { self.new.plan ≡ after_call self.old.plan (is_err result) }
         ensures piece { self.new.piece ≡ self.old.piece }
     {

@@ -20,12 +20,16 @@ pub fn read_all<S: Source>(
     source: &mut S,
     limit: usize,
 ) -> Result<Vec<u8>, ReadFault>
-    ensures bytes { IfOk result (λ bytes. IfSome (S.told source.old).left (λ left. bytes.items ≡ left)) }
-    ensures end { OnOk result (IfSome (S.told source.old).left (λ _. (S.told source.new).left ≡ Some [])) }
+    ensures bytes { IfOk result (λ bytes.
+        IfSome (S.told source.old).left (λ left. bytes.items ≡ left)) }
+    ensures end { OnOk result (IfSome (S.told source.old).left
+        (λ _. (S.told source.new).left ≡ Some [])) }
     ensures bound { IfOk result (λ bytes. length bytes.items ≤ limit) }
     ensures longer { IfErr result (IsLonger limit (S.told source.old).left) }
-    ensures front { OnErr result ((taken : List ℕ) × Consumes (S.told source.old).left (S.told source.new).left taken) }
-    ensures within { IfErr result (IsWithin limit (S.told source.old).left (S.told source.new).left) }
+    ensures front { OnErr result ((taken : List ℕ)
+        × Consumes (S.told source.old).left (S.told source.new).left taken) }
+    ensures within { IfErr result (IsWithin limit (S.told source.old).left
+        (S.told source.new).left) }
     ensures cause { HasReadCause (S.told source.old).faults (S.told source.new).faults result }
 {
     let mut bytes = Vec::new(alloc);

@@ -22,7 +22,8 @@ pub trait Sink {
         requires { 0 < length piece.now }
         ensures some { IfOk result (λ count. 1 ≤ count) }
         ensures bound { IfOk result (λ count. count ≤ length piece.now) }
-        ensures bytes { WriteAppends (told self.old).written (told self.new).written result piece.now }
+        ensures bytes { WriteAppends (told self.old).written (told self.new).written result
+            piece.now }
         ensures told { IsSome (told self.old).written → IsSome (told self.new).written }
         ensures flushed { (told self.new).flushed ≡ (told self.old).flushed }
         ensures cause { HasCause (told self.old).faults (told self.new).faults result };

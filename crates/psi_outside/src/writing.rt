@@ -12,9 +12,12 @@ use crate::{Failed, Sink};
 /// written, and as many bytes are flushed as before. Where the answer is Ok no write and no flush failed, so the count is as before.
 #[tactic(auto, using(crate::proofs::Pieces::whole_kept))]
 pub fn write_all<K: Sink>(sink: &mut K, text: &[u8]) -> Result<(), Failed>
-    ensures written { OnOk result (Appends (K.told sink.old).written (K.told sink.new).written text.now) }
-    ensures flushed { OnOk result (IsAllFlushed (K.told sink.new).written (K.told sink.new).flushed) }
-    ensures front { OnErr result ((n : ℕ) × Appends (K.told sink.old).written (K.told sink.new).written (take n text.now)) }
+    ensures written { OnOk result (Appends (K.told sink.old).written (K.told sink.new).written
+        text.now) }
+    ensures flushed { OnOk result (IsAllFlushed (K.told sink.new).written
+        (K.told sink.new).flushed) }
+    ensures front { OnErr result ((n : ℕ)
+        × Appends (K.told sink.old).written (K.told sink.new).written (take n text.now)) }
     ensures unflushed { OnErr result ((K.told sink.new).flushed ≡ (K.told sink.old).flushed) }
     ensures cause { HasCause (K.told sink.old).faults (K.told sink.new).faults result }
 {
@@ -24,8 +27,10 @@ pub fn write_all<K: Sink>(sink: &mut K, text: &[u8]) -> Result<(), Failed>
 
 // Writes all of the text, piece by piece.
 fn write_pieces<K: Sink>(sink: &mut K, text: &[u8]) -> Result<(), Failed>
-    ensures written { OnOk result (Appends (K.told sink.old).written (K.told sink.new).written text.now) }
-    ensures front { OnErr result ((n : ℕ) × Appends (K.told sink.old).written (K.told sink.new).written (take n text.now)) }
+    ensures written { OnOk result (Appends (K.told sink.old).written (K.told sink.new).written
+        text.now) }
+    ensures front { OnErr result ((n : ℕ)
+        × Appends (K.told sink.old).written (K.told sink.new).written (take n text.now)) }
     ensures unflushed { (K.told sink.new).flushed ≡ (K.told sink.old).flushed }
     ensures cause { HasCause (K.told sink.old).faults (K.told sink.new).faults result }
 {

@@ -12,7 +12,8 @@ use rand_chacha::ChaCha20Rng;
 // A coefficient of a key, from the next word.
 fn key_coefficient(words: &mut ChaCha20Rng) -> i8
     requires { words.now.word_pos + 1 < 2 ^ 68 }
-    ensures value { result ≡ pos (word_at 10 words.old.key words.old.stream words.old.word_pos % 3) -ℤ pos 1 }
+    ensures value { result ≡ pos (word_at 10 words.old.key words.old.stream words.old.word_pos % 3)
+        -ℤ pos 1 }
     ensures small { unsigned_abs result ≤ 1 }
     ensures moved { words.new ≡ record words.old { word_pos = words.old.word_pos + 1 } }
 {
@@ -30,7 +31,8 @@ fn low_ones(word: u32) -> i8
 // A coefficient of an error, from the next two words.
 fn error_coefficient(words: &mut ChaCha20Rng) -> i8
     requires { words.now.word_pos + 2 < 2 ^ 68 }
-    ensures value { result ≡ pos (low_ones (word_at 10 words.old.key words.old.stream words.old.word_pos))
+    ensures value { result ≡ pos (low_ones
+        (word_at 10 words.old.key words.old.stream words.old.word_pos))
         -ℤ pos (low_ones (word_at 10 words.old.key words.old.stream (words.old.word_pos + 1))) }
     ensures small { unsigned_abs result ≤ 21 }
     ensures moved { words.new ≡ record words.old { word_pos = words.old.word_pos + 2 } }
@@ -44,9 +46,11 @@ fn error_coefficient(words: &mut ChaCha20Rng) -> i8
 fn mask_residues(words: &mut ChaCha20Rng) -> (u64, u64)
     requires { words.now.word_pos + 4 < 2 ^ 68 }
     ensures first { result.0 ≡ (word_at 10 words.old.key words.old.stream words.old.word_pos
-        + word_at 10 words.old.key words.old.stream (words.old.word_pos + 1) * 2 ^ 32) % first_modulus }
+        + word_at 10 words.old.key words.old.stream (words.old.word_pos + 1) * 2 ^ 32) %
+        first_modulus }
     ensures second { result.1 ≡ (word_at 10 words.old.key words.old.stream (words.old.word_pos + 2)
-        + word_at 10 words.old.key words.old.stream (words.old.word_pos + 3) * 2 ^ 32) % second_modulus }
+        + word_at 10 words.old.key words.old.stream (words.old.word_pos + 3) * 2 ^ 32) %
+        second_modulus }
     ensures first_below { result.0 < first_modulus }
     ensures second_below { result.1 < second_modulus }
     ensures moved { words.new ≡ record words.old { word_pos = words.old.word_pos + 4 } }
@@ -60,7 +64,8 @@ fn mask_residues(words: &mut ChaCha20Rng) -> (u64, u64)
 /// has 4096 places.
 pub fn key(seed: &[u8; 32], out: &mut [i8])
     requires { length out.now ≡ ring_degree }
-    ensures value { (i : ℕ) → i < ring_degree → slice_index_or out.new i (pos 0) ≡ key_coefficient seed.now i }
+    ensures value { (i : ℕ) → i < ring_degree
+        → slice_index_or out.new i (pos 0) ≡ key_coefficient seed.now i }
     ensures small { All (λ x. unsigned_abs x ≤ 1) out.new }
 {
     let mut words = open(seed, 0);
@@ -75,7 +80,8 @@ pub fn key(seed: &[u8; 32], out: &mut [i8])
 pub fn error(seed: &[u8; 32], c: u32, out: &mut [i8])
     requires places { length out.now ≡ ring_degree }
     requires numbered { c < 2400 }
-    ensures value { (i : ℕ) → i < ring_degree → slice_index_or out.new i (pos 0) ≡ error_coefficient seed.now c i }
+    ensures value { (i : ℕ) → i < ring_degree
+        → slice_index_or out.new i (pos 0) ≡ error_coefficient seed.now c i }
     ensures small { All (λ x. unsigned_abs x ≤ 21) out.new }
 {
     let mut words = open(seed, 2 + 2 * u64::from(c));
@@ -91,8 +97,10 @@ pub fn mask(seed: &[u8; 32], c: u32, out1: &mut [u64], out2: &mut [u64])
     requires first_places { length out1.now ≡ ring_degree }
     requires second_places { length out2.now ≡ ring_degree }
     requires numbered { c < 2400 }
-    ensures first { (i : ℕ) → i < ring_degree → slice_index out1.new i ≡ first_mask_residue seed.now c i }
-    ensures second { (i : ℕ) → i < ring_degree → slice_index out2.new i ≡ second_mask_residue seed.now c i }
+    ensures first { (i : ℕ) → i < ring_degree
+        → slice_index out1.new i ≡ first_mask_residue seed.now c i }
+    ensures second { (i : ℕ) → i < ring_degree
+        → slice_index out2.new i ≡ second_mask_residue seed.now c i }
     ensures first_below { All (λ x. x < first_modulus) out1.new }
     ensures second_below { All (λ x. x < second_modulus) out2.new }
 {

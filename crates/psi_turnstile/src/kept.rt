@@ -33,8 +33,10 @@ pub trait Act<B: Kept> {
     fn act(&mut self, book: &mut B) -> Self::Out
         requires { can self.old (B.base book.old) (B.entries book.old) }
         ensures base { B.base book.new ≡ B.base book.old }
-        ensures grows { (B.entries book.new ≡ B.entries book.old) ⊎ ((e : B.Entry) × (B.entries book.new ≡ B.entries book.old ++ e ∷ [])) }
-        ensures does { does self.old (B.base book.old) (B.entries book.old) self.new (B.entries book.new) result };
+        ensures grows { (B.entries book.new ≡ B.entries book.old)
+            ⊎ ((e : B.Entry) × (B.entries book.new ≡ B.entries book.old ++ e ∷ [])) }
+        ensures does { does self.old (B.base book.old) (B.entries book.old) self.new
+            (B.entries book.new) result };
 
     ghost stays: { (a : Self) (z : B.Base) (xs ys : List B.Entry) → can a z xs → can a z (xs ++ ys) };
 }

@@ -24,16 +24,19 @@ const SLOT: usize = 0;
 const LOW: u64 = 1 << 32;
 
 pub(crate) fn draw<B: Kept>(core: &Core<B>, token: &mut Token<B>) -> u64
-    requires here { (token.old.table_id ≡ core.now.table_id) × (core.now.table_id.words ≡ 3) × (core.now.table_id.slots ≡ 1) }
+    requires here { (token.old.table_id ≡ core.now.table_id) × (core.now.table_id.words ≡ 3)
+        × (core.now.table_id.slots ≡ 1) }
     requires free { IsFree token.old.me }
     ensures same { token.new.table_id ≡ token.old.table_id }
-    ensures drew { (t : ℕ) × (t % 2 ^ 64 ≡ result) × (token.new.me ≡ (at (Waits t) token.old.me.0, [])) }
+    ensures drew { (t : ℕ) × (t % 2 ^ 64 ≡ result)
+        × (token.new.me ≡ (at (Waits t) token.old.me.0, [])) }
 {
     core.fetch_add::<Draw>(token, DRAWN, 1)
 }
 
 pub(crate) fn wait<B: Kept, R: Wait>(rt: &R, core: &Core<B>, token: &mut Token<B>, ticket: u64)
-    requires here { (token.old.table_id ≡ core.now.table_id) × (core.now.table_id.words ≡ 3) × (core.now.table_id.slots ≡ 1) }
+    requires here { (token.old.table_id ≡ core.now.table_id) × (core.now.table_id.words ≡ 3)
+        × (core.now.table_id.slots ≡ 1) }
     requires waiting { IsWaiting ticket token.old.me }
     ensures same { token.new.table_id ≡ token.old.table_id }
     ensures turn { (t : ℕ) × (token.new.me ≡ (at (Ahead t) token.old.me.0, [])) }
@@ -49,10 +52,15 @@ pub(crate) fn wait<B: Kept, R: Wait>(rt: &R, core: &Core<B>, token: &mut Token<B
 }
 
 pub(crate) fn take<B: Kept>(core: &Core<B>, token: &mut Token<B>) -> B
-    requires here { (token.old.table_id ≡ core.now.table_id) × (core.now.table_id.words ≡ 3) × (core.now.table_id.slots ≡ 1) }
+    requires here { (token.old.table_id ≡ core.now.table_id) × (core.now.table_id.words ≡ 3)
+        × (core.now.table_id.slots ≡ 1) }
     requires ahead { IsAhead token.old.me }
     ensures same { token.new.table_id ≡ token.old.table_id }
-    ensures inside { (t : ℕ) × (token.new.me ≡ (at (Inside t) (saw (B.entries result) token.old.me.0), (0, None) ∷ [])) }
+    ensures inside { (t : ℕ) × (token.new.me ≡ (
+      at (Inside t)
+          (saw (B.entries result) token.old.me.0),
+      (0, None) ∷ [],
+    )) }
     ensures base { token.old.me.0.base ≡ Some (B.base result) }
     ensures follows { Follows (B.entries result) token.old.me.0 }
 {
@@ -66,14 +74,16 @@ pub(crate) fn note<B: Kept, N: News<B::Entry>>(
     book: &B,
     added: u64,
 )
-    requires here { (token.old.table_id ≡ core.now.table_id) × (core.now.table_id.words ≡ 3) × (core.now.table_id.slots ≡ 1) }
+    requires here { (token.old.table_id ≡ core.now.table_id) × (core.now.table_id.words ≡ 3)
+        × (core.now.table_id.slots ≡ 1) }
     requires inside { IsInside None token.old.me }
     requires news { N.log ≡ B.entries book.now }
     requires grows { Grows token.old.me.0.seen added (B.entries book.now) }
     requires fits { length (B.entries book.now) < 2 ^ 64 }
     ensures same { token.new.table_id ≡ token.old.table_id }
     ensures held { token.new.me.1 ≡ (0, None) ∷ [] }
-    ensures seen { token.new.me.0 ≡ record token.old.me.0 { seen = B.entries book.now; own = token.new.me.0.own } }
+    ensures seen { token.new.me.0 ≡ record token.old.me.0
+        { seen = B.entries book.now; own = token.new.me.0.own } }
     ensures added { Added token.old.me.0.seen token.old.me.0.own token.new.me.0 }
     ensures places { Places (length (B.entries book.now)) token.new.me.0 }
 {
@@ -82,7 +92,8 @@ pub(crate) fn note<B: Kept, N: News<B::Entry>>(
 }
 
 pub(crate) fn give<B: Kept>(core: &Core<B>, token: &mut Token<B>, book: B)
-    requires here { (token.old.table_id ≡ core.now.table_id) × (core.now.table_id.words ≡ 3) × (core.now.table_id.slots ≡ 1) }
+    requires here { (token.old.table_id ≡ core.now.table_id) × (core.now.table_id.words ≡ 3)
+        × (core.now.table_id.slots ≡ 1) }
     requires inside { IsInside None token.old.me }
     requires base { token.old.me.0.base ≡ Some (B.base book) }
     requires entries { token.old.me.0.seen ≡ B.entries book }

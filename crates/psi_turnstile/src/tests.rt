@@ -70,7 +70,8 @@ impl Purse {
     fn pay(&mut self, amount: u64) -> bool
         requires { amount + self.old.paid ≤ self.old.limit }
         ensures limit { self.new.limit ≡ self.old.limit }
-        ensures paid { IsTrue result → self.new.payments.items ≡ self.old.payments.items ++ amount ∷ [] }
+        ensures paid { IsTrue result → self.new.payments.items ≡ self.old.payments.items ++ amount
+            ∷ [] }
         ensures refused { IsFalse result → self.new.payments.items ≡ self.old.payments.items }
     {
         if self.payments.push(amount).is_err() {
@@ -90,7 +91,8 @@ fn settle<R: Threads + Wait + Sync>(
 ) -> Option<u64>
     requires { seat.old.turnstile ≡ purses.now }
     ensures here { seat.new.turnstile ≡ seat.old.turnstile }
-    ensures legal { (limit : ℕ) × (seat.old.knows.base ≡ Some limit) × (sum seat.new.knows.seen ≤ limit) }
+    ensures legal { (limit : ℕ) × (seat.old.knows.base ≡ Some limit)
+        × (sum seat.new.knows.seen ≤ limit) }
 {
     let (paid, length) = purses.turn(rt, seat, &mut pay);
     if paid { Some(length - 1) } else { None }

@@ -131,9 +131,11 @@ impl<B: Kept> Turnstile<B> {
         act: &mut A,
     ) -> (A::Out, u64)
         requires here { seat.old.turnstile ≡ self.now }
-        requires can { (z : B.Base) → seat.old.knows.base ≡ Some z → A.can act.old z seat.old.knows.seen }
+        requires can { (z : B.Base) → seat.old.knows.base ≡ Some z
+            → A.can act.old z seat.old.knows.seen }
         ensures here { seat.new.turnstile ≡ seat.old.turnstile }
-        ensures act { Turned (λ z met after. A.does act.old z met act.new after result.0) seat.old.knows seat.new.knows }
+        ensures act { Turned (λ z met after. A.does act.old z met act.new after result.0)
+            seat.old.knows seat.new.knows }
         ensures follows { Follows seat.new.knows.seen seat.old.knows }
         ensures keeps { Keeps seat.old.knows seat.new.knows }
         ensures places { Places (length seat.new.knows.seen) seat.new.knows }
@@ -176,7 +178,8 @@ impl<B: Kept> Turnstile<B> {
     pub fn split(&self, seat: &mut Seat<B>) -> Seat<B>
         requires here { seat.old.turnstile ≡ self.now }
         requires two { 2 ≤ seat.old.knows.share }
-        ensures here { (seat.new.turnstile ≡ seat.old.turnstile) × (result.turnstile ≡ seat.old.turnstile) }
+        ensures here { (seat.new.turnstile ≡ seat.old.turnstile)
+            × (result.turnstile ≡ seat.old.turnstile) }
         ensures kept { seat.new.knows ≡ keeps_rest seat.old.knows }
         ensures given { result.knows ≡ takes_half seat.old.knows }
     {
@@ -220,7 +223,8 @@ impl<B: Kept> Turnstile<B> {
         requires here { seat.old.turnstile ≡ self.now }
         requires note { note.turnstile ≡ self.now }
         ensures here { seat.new.turnstile ≡ seat.old.turnstile }
-        ensures looked { seat.new.knows ≡ saw seat.new.knows.seen (joined seat.old.knows note.knows) }
+        ensures looked { seat.new.knows ≡ saw seat.new.knows.seen
+            (joined seat.old.knows note.knows) }
         ensures follows { Follows seat.new.knows.seen seat.old.knows }
         ensures follows_note { Follows seat.new.knows.seen note.knows }
         ensures places { Places (length seat.new.knows.seen) seat.new.knows }

@@ -55,8 +55,10 @@ impl Shelf {
 
     /// Clears the block and keeps it. A block is handed back, as it was given, exactly where the shelf has eight.
     pub fn give(&mut self, block: RowBlock) -> Option<RowBlock>
-        ensures kept { length self.old < shelf_room → (result ≡ None) × (self.new ≡ self.old ++ cleared block ∷ []) }
-        ensures full { shelf_room ≤ length self.old → (result ≡ Some block) × (self.new ≡ self.old) }
+        ensures kept { length self.old < shelf_room → (result ≡ None)
+            × (self.new ≡ self.old ++ cleared block ∷ []) }
+        ensures full { shelf_room ≤ length self.old → (result ≡ Some block)
+            × (self.new ≡ self.old) }
         ensures facts { IsShelf self.new }
     {
         if self.is_full() {

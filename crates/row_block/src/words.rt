@@ -44,7 +44,8 @@ impl Words {
     // Writes the row's words from the place `from` on. The words below it stay, and those behind the row are let go.
     pub(crate) fn push_row(&mut self, from: usize, row: &[u64])
         requires { (from ≤ length self.old.written) × (from + length row.now ≤ self.old.room) }
-        ensures { (self.new.room ≡ self.old.room) × (self.new.written ≡ take from self.old.written ++ row.now) }
+        ensures { (self.new.room ≡ self.old.room)
+            × (self.new.written ≡ take from self.old.written ++ row.now) }
     {
         let mut k = 0;
         unsafe {
