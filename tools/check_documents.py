@@ -205,9 +205,11 @@ def documents():
 
 def print_unlisted(names):
     for crate in names.repo.crates:
-        text = read("crates/" + crate + "/README.md")
+        text, lib = read("crates/" + crate + "/README.md"), names.repo.sources.get("crates/" + crate + "/src/lib.rt")
+        shown = set(NAME.findall(" ".join(re.findall(r"(?s)\bpub use ([^;]*);", lib.code)))) if lib else set()
         for it in names.calls.get(crate, []):
-            if it.kind == "fn" and it.is_public and "`" + it.name not in text and "::" + it.name not in text:
+            is_shown = it.is_public and (it.owner or it.name) in shown or lib and it.path == lib.path and it.is_public
+            if it.kind == "fn" and is_shown and "`" + it.name not in text and "::" + it.name not in text:
                 print(crate + ": " + it.full() + " " + it.path)
 
 

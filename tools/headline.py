@@ -11,6 +11,7 @@
 """
 
 import os
+import re
 import sys
 
 import repository
@@ -104,8 +105,9 @@ class Closure:
         self.words(file.scope, file.definitions, text, {}, None)
 
     def follow_trait_clauses(self, definition, item):
-        ghosts = [it for it in definition.source.items if it.kind == "fn" and it.owner == item.name]
-        for function in ghosts:
+        ghosts = "\n".join(re.findall(r"\bghost \w+: \{([^}]*)\}", item.text))
+        self.words(definition.source.scope, {}, ghosts, {}, definition.source)
+        for function in [it for it in definition.source.items if it.kind == "fn" and it.owner == item.name]:
             for clauses in function.clauses.values():
                 for _, text in clauses:
                     self.words(definition.source.scope, {}, text, {}, definition.source)
