@@ -1,13 +1,11 @@
 #!/usr/bin/env python3
 """Writes the crate bench_caches, which measures building a cache, and the answer to a query on caches.
 
-No part of the gate. In a copy of the repository, run this at the top, add the line
-`bench_caches: anyhow bfv_core bundle_cache item_slots noise_ledger psi_bundle psi_residue row_block` to crates.txt, and
-`rt run` in crates/bench_caches; then run out/bench_caches there on one processor (`taskset -c 0`), so that rayon's threads
-share it. Each line has the least times of some rounds, in nanoseconds: of a build for each row, once of an empty bundle
+No part of the gate. In a copy of the repository, run this at the top, and `rt run` in crates/bench_caches; then run
+out/bench_caches there on one processor (`taskset -c 0`), so that rayon's threads share it. Each line has the least times of some rounds, in nanoseconds: of a build for each row, once of an empty bundle
 and once of a full one, and of a query's transforms with its evaluation on one or two caches.
 """
-import pathlib
+from throwaway import write_crate
 
 MAIN = """//! How long caches and evaluations take: the least of some rounds, in nanoseconds.
 #![tactic(auto)]
@@ -262,7 +260,7 @@ invariant-loop l = l.scratch.parameters ≡ parameters_of l.params
 
 
 def main():
-    crate = pathlib.Path("crates/bench_caches")
+    libraries = "anyhow bfv_core bundle_cache item_slots noise_ledger psi_bundle psi_residue row_block"
     files = {
         "src/main.rt": MAIN,
         "proofs/full/Invariants.antt": CACHEABLE,
@@ -273,9 +271,7 @@ def main():
         "proofs/asks/Invariants.antt": ASKS,
         "proofs/evaluate/Invariants.antt": EVALUATE,
     }
-    for name, text in files.items():
-        (crate / name).parent.mkdir(parents=True, exist_ok=True)
-        (crate / name).write_text(text)
+    write_crate("bench_caches", libraries, files)
 
 
 if __name__ == "__main__":

@@ -14,17 +14,13 @@ import subprocess
 import sys
 import time
 
-from outside_values import ZERO_QUERY, frame
+from definitions import ZERO_QUERY, frame, spelled
 
 GREATEST = 196608015
 WORDS = ["serve", "1", "1", "0", "1", "0"]
 BATCH = 250
 SECONDS = 10
 KIBIBYTES = 1 << 21
-
-
-def named(item):
-    return bytes([len(item)]) + item
 
 
 def valid_input(source):
@@ -35,9 +31,9 @@ def valid_input(source):
         session = source.randrange(4)
         kind = source.random()
         if kind < 0.4:
-            out += frame(1, session, number, named(item))
+            out += frame(1, session, number, spelled(item))
         elif kind < 0.6:
-            out += frame(2, session, number, named(item))
+            out += frame(2, session, number, spelled(item))
         elif kind < 0.7:
             out += frame(4, session, number, bytes([source.randrange(3)]))
         elif kind < 0.85:

@@ -1,14 +1,14 @@
 #!/usr/bin/env python3
 """Writes the crate bench_interpolate, which measures an interpolation of 64 points, and says what it must print.
 
-No part of the gate. In a copy of the repository, run this at the top, add the line
-`bench_interpolate: anyhow label_interp` to crates.txt, and `rt run` in crates/bench_interpolate. Each of its three lines
-has the first and the last coefficient and the time.
+No part of the gate. In a copy of the repository, run this at the top, and `rt run` in crates/bench_interpolate. Each of its three
+lines has the first and the last coefficient and the time.
 """
-import pathlib
 import random
 
-MODULUS = 65537
+from definitions import T, through
+from throwaway import write_crate
+
 COUNT = 64
 
 MAIN = """//! How long an interpolation of 64 points takes.
@@ -74,29 +74,15 @@ def apart(count):
     return whole
 
 
-def interpolated(points):
-    """The coefficients by Lagrange's form."""
-    sums = [0] * len(points)
-    for i, (place, value) in enumerate(points):
-        basis, below = [1], 1
-        for other, _ in points[:i] + points[i + 1:]:
-            shifted = [0] + basis
-            basis = [(a - other * b) % MODULUS for a, b in zip(shifted, basis + [0])]
-            below = below * (place - other) % MODULUS
-        scale = value * pow(below, -1, MODULUS)
-        sums = [(s + scale * b) % MODULUS for s, b in zip(sums, basis)]
-    return sums
-
-
 def main():
     draw = random.Random(COUNT)
-    points = [(place, draw.randrange(MODULUS)) for place in draw.sample(range(MODULUS), COUNT)]
-    crate = pathlib.Path("crates/bench_interpolate")
-    for folder in ["src", "proofs/through_points"]:
-        (crate / folder).mkdir(parents=True, exist_ok=True)
-    (crate / "src/main.rt").write_text(MAIN.replace("POINTS", ", ".join(map(str, points))))
-    (crate / "proofs/through_points/Answers.antt").write_text(ANSWERS.replace("APART", apart(COUNT)))
-    wanted = interpolated(points)
+    points = [(place, draw.randrange(T)) for place in draw.sample(range(T), COUNT)]
+    files = {
+        "src/main.rt": MAIN.replace("POINTS", ", ".join(map(str, points))),
+        "proofs/through_points/Answers.antt": ANSWERS.replace("APART", apart(COUNT)),
+    }
+    write_crate("bench_interpolate", "anyhow label_interp", files)
+    wanted = through(points)
     print(f"each line must begin with {wanted[0]} {wanted[-1]}")
 
 

@@ -1,8 +1,9 @@
 #!/usr/bin/env python3
 """Serves rounds of random requests on many workers and builders, and checks the replies' bytes against the definitions.
 
-Nothing here is taken from the program. The history is read off requests and replies: the entry at a place has the call of the
-request whose reply has that place. Then the seven points are checked, one by one: (1) one reply for each request, in order, with
+Nothing here is taken from the program. Tags, frames, polynomials and packing are those of definitions.py, which outside_values.py has
+too; sets, histories and the seven points are read here anew. The history is read off requests and replies: the entry at a place
+has the call of the request whose reply has that place. Then the seven points are checked, one by one: (1) one reply for each request, in order, with
 its session and number; (2) a request whose bytes have a code is refused with it; (3) in each round the places follow on, each
 once, and as no journal here is full, each request without a code has one; (4) in a session they rise; (5) each answer is the
 step's; (6) a Repack's `from` is no less than its round's first place, behind its session's earlier places, and no more than its
@@ -10,35 +11,17 @@ own place; (7) the body of an Answer is the evaluation of the set at its place.
 
 Usage: random_rounds.py PROGRAM [RUNS [SEED [WORKERS [BUILDERS]]]]
 """
-import hashlib
 import random
 import subprocess
 import sys
 
-from outside_values import DELTA, N, Q1, Q2, T, frame, packed, product, residue_bytes
+from definitions import (
+    DELTA, GO_FRAME, N, Q1, Q2, Params, frame, frames_of, packed, padded, positions, product, residue_bytes,
+    roots_polynomial, slot_values, spelled, tag_of, through,
+)
 
 MODULI = (Q1, Q2, Q1, Q2)
 ASKS = 32
-
-
-class Params:
-    def __init__(self, rows, capacity, units):
-        self.rows, self.capacity, self.units = rows, capacity, units
-
-    def bytes(self):
-        return bytes([1, self.rows]) + self.capacity.to_bytes(2, "big") + bytes([self.units, 0, 0, 0])
-
-
-def tag_of(item):
-    return hashlib.sha256(item).digest()[:22]
-
-
-def slot_values(tag):
-    return [int.from_bytes(tag[2 * j:2 * j + 2], "big") for j in range(5)]
-
-
-def positions(tag, rows):
-    return sorted({int.from_bytes(tag[10 + 4 * i:14 + 4 * i], "big") % (819 * rows) for i in range(3)})
 
 
 class Bundle:
@@ -148,23 +131,6 @@ class Version:
         return out
 
 
-def times(poly, root):
-    """The product with x - root, modulo 65537."""
-    return [((poly[k - 1] if k else 0) - root * (poly[k] if k < len(poly) else 0)) % T for k in range(len(poly) + 1)]
-
-
-def interpolated(points):
-    """The coefficients of Lagrange's polynomial."""
-    out = [0] * len(points)
-    for i, (x, y) in enumerate(points):
-        basis, scale = [1], y
-        for j, (other, _) in enumerate(points):
-            if j != i:
-                basis, scale = times(basis, other), scale * pow(x - other, -1, T) % T
-        out = [(o + scale * b) % T for o, b in zip(out, basis)]
-    return out
-
-
 def coefficients(bundle, plane, slot, capacity):
     if slot == N - 1:
         poly = [1]
@@ -172,13 +138,11 @@ def coefficients(bundle, plane, slot, capacity):
         b, part = divmod(slot, 5)
         members = bundle.bins.get(b, [])
         if plane == 0:
-            poly = [1]
-            for tag, _ in members:
-                poly = times(poly, slot_values(tag)[part])
+            poly = roots_polynomial([slot_values(tag)[part] for tag, _ in members])
         else:
             at = 2 * (5 * (plane - 1) + part)
-            poly = interpolated([(slot_values(tag)[part], int.from_bytes(label[at:at + 2], "big")) for tag, label in members])
-    return poly + [0] * (capacity + 1 - len(poly))
+            poly = through([(slot_values(tag)[part], int.from_bytes(label[at:at + 2], "big")) for tag, label in members])
+    return padded(poly, capacity)
 
 
 class Request:
@@ -192,7 +156,7 @@ class Request:
 def random_request(source, params, number, items):
     session = source.randrange(12)
     item = source.choice(items)
-    named = bytes([len(item)]) + item
+    named = spelled(item)
     what = source.random()
     if what < 0.5:
         label = source.randbytes(10 * params.units)
@@ -237,14 +201,9 @@ def random_rounds(source, params):
 
 def read_replies(text):
     """The frames of a text: kind, session, number, body."""
-    out, at = [], 0
-    while at < len(text):
-        size = int.from_bytes(text[at:at + 4], "big")
-        whole = text[at + 4:at + 4 + size]
-        assert len(whole) == size >= 8, "a frame is cut"
-        out.append((whole[0], int.from_bytes(whole[1:3], "big"), int.from_bytes(whole[3:7], "big"), whole[7:]))
-        at += 4 + size
-    return out
+    frames, is_whole = frames_of(text)
+    assert is_whole and all(len(it) >= 12 for it in frames), "a frame is cut"
+    return [(it[4], int.from_bytes(it[5:7], "big"), int.from_bytes(it[7:11], "big"), it[11:]) for it in frames]
 
 
 def told(kind, body):
@@ -306,8 +265,7 @@ def main(program, runs=300, seed=1, workers=8, builders=4):
         source = random.Random(seed * 1000003 + run)
         params = Params(source.choice([1, 1, 2]), source.choice([1, 2, 3]), source.choice([0, 0, 1]))
         rounds = random_rounds(source, params)
-        go = frame(5, 0, 0, b"")
-        text = go.join(b"".join(request.bytes() for request in round_) for round_ in rounds)
+        text = GO_FRAME.join(b"".join(request.bytes() for request in round_) for round_ in rounds)
         words = ["serve", params.rows, params.capacity, params.units, workers, builders]
         ran = subprocess.run([program, *map(str, words)], input=text, capture_output=True)
         try:

@@ -1,9 +1,8 @@
 #!/usr/bin/env python3
 """Measures the receiver: a query of 500 items at capacity 64, and opening a reply of 60 bundles in which nothing is found.
 
-No part of the gate. In a copy of the repository, run this at the top: it writes the crate bench_receiver. Add the line
-`bench_receiver: anyhow bfv_core noise_ledger psi_receiver psi_residue query_codec` to crates.txt, and `rt run` in
-crates/bench_receiver. Each line that the program writes has the times of one round, in nanoseconds a ciphertext: of `ask`,
+No part of the gate. In a copy of the repository, run this at the top: it writes the crate bench_receiver. Then `rt run`
+in crates/bench_receiver. Each line that the program writes has the times of one round, in nanoseconds a ciphertext: of `ask`,
 64 ciphertexts, and of `open`, 60.
 
 `receiver_bench.py measure TIMES`, at the top, then runs it so often on one processor (each in its turn) and on all, by turns,
@@ -11,10 +10,11 @@ since a host may take a processor's speed away for a minute or a moment. It writ
 time, and how many times as fast all processors were.
 """
 import os
-import pathlib
 import statistics
 import subprocess
 import sys
+
+from throwaway import write_crate
 
 MAIN = """//! How long a query and the opening of a reply take, in nanoseconds a ciphertext.
 #![tactic(auto)]
@@ -126,12 +126,9 @@ returns c = IsPolynomial-set 65537 (replicate 4096 0) 0 1 (IsPolynomial-constant
 PROGRAM = "crates/bench_receiver/out/bench_receiver"
 
 
-def write_crate():
-    crate = pathlib.Path("crates/bench_receiver")
+def write():
     files = {"src/main.rt": MAIN, "proofs/items/Invariants.antt": ITEMS, "proofs/ones/Invariants.antt": ONES, "proofs/one/Answers.antt": ONE}
-    for name, text in files.items():
-        (crate / name).parent.mkdir(parents=True, exist_ok=True)
-        (crate / name).write_text(text)
+    write_crate("bench_receiver", "anyhow bfv_core noise_ledger psi_receiver psi_residue query_codec", files)
 
 
 def rounds(command):
@@ -159,4 +156,4 @@ if __name__ == "__main__":
     if sys.argv[1:2] == ["measure"]:
         measure(int(sys.argv[2]))
     else:
-        write_crate()
+        write()

@@ -25,7 +25,9 @@ import subprocess
 import sys
 import tempfile
 
-from outside_values import first_placement, positions, tag_of
+from definitions import positions, tag_of
+from outside_values import first_placement
+from throwaway import write_crate
 
 CRATE = pathlib.Path("crates/refused_calls")
 LIBRARIES = "bundle_cache cuckoo_place item_slots live_sender noise_ledger psi_bundle psi_outside psi_rebuilder row_block sender_core"
@@ -170,8 +172,7 @@ PROGRAMS = {"build": (BUILD, ways_of_build), "place": (PLACE, ways_of_place)}
 
 def run(source):
     """How each run ends and what it tells, by the allocation that is refused, and how `rt` itself ends."""
-    (CRATE / "src").mkdir(parents=True, exist_ok=True)
-    (CRATE / "src/main.rt").write_text(source)
+    write_crate(CRATE.name, LIBRARIES, {"src/main.rt": source})
     with tempfile.TemporaryDirectory() as folder:
         for n in range(1, LIMIT + 1):
             pathlib.Path(folder, str(n)).write_bytes(bytes(LIMIT - n))
@@ -209,9 +210,6 @@ def findings(name):
 
 
 def main(*names):
-    crates = pathlib.Path("crates.txt")
-    if f"{CRATE.name}:" not in crates.read_text():
-        crates.write_text(crates.read_text() + f"{CRATE.name}: {LIBRARIES}\n")
     return 1 if any([findings(name) for name in names or PROGRAMS]) else 0
 
 

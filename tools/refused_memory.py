@@ -14,7 +14,7 @@ import subprocess
 import sys
 import tempfile
 
-from outside_values import ZERO_QUERY, frame
+from definitions import GO_FRAME as GO, ZERO_QUERY, frame, frames_of
 
 SHIM = r"""
 #include <errno.h>
@@ -56,7 +56,6 @@ int posix_memalign(void **p, size_t a, size_t n) {
 
 NO_MEMORY = 7
 SECONDS = 60
-GO = frame(5, 0, 0, b"")
 ABC = b"\x03abc"
 
 # three rounds of one Put
@@ -78,16 +77,6 @@ PROGRAMS = [
     ("a crowded list", ["ask", "1", "1", "0", "0" * 64, "1", "1"], CROWDED, True),
     ("the demonstration", ["demo", "7", "4"], b"", True),
 ]
-
-
-def frames_of(text):
-    """The whole frames of a text, and whether nothing is left behind them."""
-    frames, at = [], 0
-    while at + 4 <= len(text) and at + 4 + int.from_bytes(text[at:at + 4], "big") <= len(text):
-        end = at + 4 + int.from_bytes(text[at:at + 4], "big")
-        frames.append(text[at:end])
-        at = end
-    return frames, at == len(text)
 
 
 def rounds_sizes(data):

@@ -1,13 +1,11 @@
 #!/usr/bin/env python3
 """Writes the crate bench_rounds, which measures a round of eight warm Asks on one worker and on four, without bytes.
 
-No part of the gate. In a copy of the repository, run this at the top, add the line
-`bench_rounds may_wait=13: anyhow bundle_cache item_slots noise_ledger psi_bundle psi_frames psi_outside psi_residue query_codec
-query_pool sender_core` to crates.txt (one line), and `rt run` in crates/bench_rounds; then run out/bench_rounds there. The lines have
-the least times of some rounds, in microseconds, at capacity 16 and one label unit, behind 40,000 items and rounds in which four
+No part of the gate. In a copy of the repository, run this at the top, and `rt run` in crates/bench_rounds; then run
+out/bench_rounds there. The lines have the least times of some rounds, in microseconds, at capacity 16 and one label unit, behind 40,000 items and rounds in which four
 builders made all caches. The queries are zeros.
 """
-import pathlib
+from throwaway import write_crate
 
 MAIN = """//! How long a round of eight warm Asks takes on some workers: the least of some rounds, in microseconds.
 #![tactic(auto)]
@@ -180,11 +178,9 @@ invariant-loop g l = l.book.parameters ≡ parameters_of l.params
 
 
 def main():
-    crate = pathlib.Path("crates/bench_rounds")
+    libraries = "anyhow bundle_cache item_slots noise_ledger psi_bundle psi_frames psi_outside psi_residue query_codec query_pool sender_core"
     files = {"src/main.rt": MAIN} | {f"proofs/{name}": text for name, text in PROOFS.items()}
-    for name, text in files.items():
-        (crate / name).parent.mkdir(parents=True, exist_ok=True)
-        (crate / name).write_text(text)
+    write_crate("bench_rounds", libraries, files, "may_wait=13")
 
 
 if __name__ == "__main__":

@@ -14,7 +14,7 @@ import sys
 import tempfile
 import time
 
-from outside_values import N, Q1, Q2, frame, residue_bytes
+from definitions import GO_FRAME as GO, N, Params, Q1, Q2, frame, residue_bytes, spelled
 
 PUTS = 20000
 CAPACITY = 16
@@ -22,19 +22,18 @@ ASKS = 8
 ROUNDS = 10
 TRIES = 5
 SET = 40000
-GO = frame(5, 0, 0, b"")
 
 
 def put(number, label=b""):
     item = number.to_bytes(8, "big")
-    return frame(1, 1 + number % 4, number, bytes([len(item)]) + item + label)
+    return frame(1, 1 + number % 4, number, spelled(item) + label)
 
 
 def query(seed, capacity, units):
     """The body of a query for one row."""
     source = random.Random(seed)
     residues = [source.randrange(q) for _ in range(capacity) for q in (Q1, Q2, Q1, Q2) for _ in range(N)]
-    return bytes([1, 1]) + capacity.to_bytes(2, "big") + bytes([units, 0, 0, 0]) + residue_bytes(residues)
+    return Params(1, capacity, units).bytes() + residue_bytes(residues)
 
 
 def timed(program, words, data):

@@ -26,16 +26,14 @@ import tempfile
 import threading
 import time
 
-PUT, ASK, GO, ANSWER = 1, 3, 5, 134
+from definitions import ANSWER, GO_FRAME, frame, frames_of, spelled
+
+PUT, ASK, GO = 1, 3, 5
 LEAST, GREATEST = 7, 196608015
 ROUND_FRAMES, ROUND_ASKS, ROUND_BYTES = 4096, 32, 1 << 28
 PATIENCE = "600"
 HERE = os.path.abspath(__file__)
 PROGRAM = os.path.join(os.path.dirname(os.path.dirname(HERE)), "crates", "psi_cli", "out", "psi_cli")
-
-
-def frame(kind, session, number, body):
-    return (LEAST + len(body)).to_bytes(4, "big") + bytes([kind]) + session.to_bytes(2, "big") + number.to_bytes(4, "big") + body
 
 
 def take(file, count):
@@ -130,7 +128,7 @@ def send(folder, kinds, source, sink):
 def exchange(frames, into, out):
     """One round: its frames and a Go in, and as many replies out as there are requests, read while the frames are written."""
     def write():
-        for one in frames + [frame(GO, 0, 0, b"")]:
+        for one in frames + [GO_FRAME]:
             into.write(one)
         into.flush()
 
@@ -177,14 +175,9 @@ def check(what, is_right):
     return is_right
 
 
-def replies_of(data):
+def replies_of(text):
     """The kinds and numbers of the frames of a text."""
-    found = []
-    while data:
-        length = int.from_bytes(data[:4], "big")
-        found.append((data[4], int.from_bytes(data[7:11], "big")))
-        data = data[4 + length:]
-    return found
+    return [(it[4], int.from_bytes(it[7:11], "big")) for it in frames_of(text)[0]]
 
 
 def try_all(program):
@@ -197,7 +190,7 @@ def try_all(program):
         try:
             own.append(subprocess.Popen([sys.executable, HERE, "start", folder, program] + sizes + ["4", "1"]))
             right &= check("the sender stands", wait_for(lambda: os.path.exists(os.path.join(folder, "lock"))))
-            puts = b"".join(frame(PUT, 1, n, bytes([3]) + b"i%02d" % n + b"label %04d" % n) for n in range(40))
+            puts = b"".join(frame(PUT, 1, n, spelled(b"i%02d" % n) + b"label %04d" % n) for n in range(40))
             sent = run([sys.executable, HERE, "send", folder], puts)
             right &= check("40 Puts are answered, in order", [it[1] for it in replies_of(sent.stdout)] == list(range(40)))
             query = run([program, "ask"] + sizes + [seed, "2", "7"], b"i03\ni39\nnone\n").stdout
@@ -219,9 +212,9 @@ def try_all(program):
             opened = run([program, "open"] + sizes + [seed, answer], b"i03\ni39\nnone\n").stdout.split(b"\n")
             wanted = [(b"i%02d" % n).hex().encode() + b" 0 " + (b"label %04d" % n).hex().encode() for n in (3, 39)]
             right &= check("it opens to the two items with their labels", opened[:-1] == wanted)
-            refused = run(client, frame(PUT, 1, 99, bytes([1]) + b"x" + b"0123456789")).stdout
+            refused = run(client, frame(PUT, 1, 99, spelled(b"x") + b"0123456789")).stdout
             right &= check("the door lets no Put through", refused == b"")
-            again = run([sys.executable, HERE, "send", folder], frame(PUT, 1, 41, bytes([3]) + b"i99" + b"label 0099"))
+            again = run([sys.executable, HERE, "send", folder], frame(PUT, 1, 41, spelled(b"i99") + b"label 0099"))
             right &= check("the sender goes on behind it", [it[1] for it in replies_of(again.stdout)] == [41])
             own[0].terminate()
             right &= check("its input ends, and its status is 0", own[0].wait(60) == 0)

@@ -1,11 +1,9 @@
 #!/usr/bin/env python3
 """Writes the crate bench_transforms, which measures transforms, packing, encryption and decryption.
 
-No part of the gate. In a copy of the repository, run this at the top, add the line
-`bench_transforms: anyhow batching bfv_core negacyclic psi_residue` to crates.txt, and `rt run` in
-crates/bench_transforms. Each line has the least times of many rounds, in nanoseconds a call.
+No part of the gate. In a copy of the repository, run this at the top, and `rt run` in crates/bench_transforms. Each line has the least times of many rounds, in nanoseconds a call.
 """
-import pathlib
+from throwaway import write_crate
 
 MAIN = """//! How long transforms, packing, encryption and decryption take: the least of many rounds, in nanoseconds a call.
 #![tactic(auto)]
@@ -162,13 +160,10 @@ returns c = IsPolynomial-constant 65537 65536 (omega arith)
 
 
 def main():
-    crate = pathlib.Path("crates/bench_transforms")
     files = {"src/main.rt": MAIN, "proofs/ones/Answers.antt": ONES, "proofs/plaintext/Answers.antt": PLAINTEXT}
     for name, variable in [("forwards", "a"), ("inverses", "a"), ("sums", "sum"), ("transforms", "a")]:
         files[f"proofs/{name}/Invariants.antt"] = INVARIANT.replace("NAME", name).replace("VARIABLE", variable)
-    for name, text in files.items():
-        (crate / name).parent.mkdir(parents=True, exist_ok=True)
-        (crate / name).write_text(text)
+    write_crate("bench_transforms", "anyhow batching bfv_core negacyclic psi_residue", files)
 
 
 if __name__ == "__main__":
