@@ -9,7 +9,7 @@
 - a generated page is not what tools/headline.py makes now.
 
     tools/check_documents.py              checks
-    tools/check_documents.py --unlisted   also prints the public calls that their crate's README.md does not name
+    tools/check_documents.py --unlisted   also prints the public calls and the clauses that their crate's README.md does not name
 """
 
 import os
@@ -209,8 +209,13 @@ def print_unlisted(names):
         shown = set(NAME.findall(" ".join(re.findall(r"(?s)\bpub use ([^;]*);", lib.code)))) if lib else set()
         for it in names.calls.get(crate, []):
             is_shown = it.is_public and (it.owner or it.name) in shown or lib and it.path == lib.path and it.is_public
-            if it.kind == "fn" and is_shown and "`" + it.name not in text and "::" + it.name not in text:
+            if it.kind != "fn" or not is_shown or "/tests" in it.path:
+                continue
+            if "`" + it.name not in text and "::" + it.name not in text:
                 print(crate + ": " + it.full() + " " + it.path)
+            new = [name for name, said in it.clauses.items() if name and said[0][0] == "ensures" and "`" + name + "`" not in text]
+            if new:
+                print(crate + ": " + it.full() + ": clauses " + ", ".join(new))
 
 
 def main():
