@@ -59,6 +59,15 @@ class Names:
                 else:
                     self.members.setdefault(item.name, set()).update(NAME.findall(item.text))
 
+    def is_shown(self, item):
+        """Whether a crate's users see an item: lib.rt hands it or its type on, or has it, or makes its file public."""
+        lib = self.repo.sources.get("crates/" + item.crate + "/src/lib.rt")
+        if not item.is_public or lib is None or item.path == lib.path:
+            return item.is_public
+        handed_on = set(NAME.findall(" ".join(re.findall(r"(?s)\bpub use ([^;]*);", lib.code))))
+        open_files = ["crates/" + item.crate + "/src/" + it + ".rt" for it in re.findall(r"\bpub mod (\w+);", lib.code)]
+        return (item.owner or item.name) in handed_on or item.path in open_files
+
     def items(self, crate, name):
         """The items of a crate that a name stands for: `call`, `Type::call`, or a type with all its calls."""
         name = name.split("(")[0]
@@ -137,7 +146,7 @@ def check_calls(names, crate, path, fault):
             for span in spans:
                 found = names.items(crate, span)
                 items += found
-                if not any(it.is_public for it in found):
+                if not any(names.is_shown(it) for it in found):
                     fault(path, number, "`" + span + "`: no public call of " + crate)
         else:
             clauses = {it for call in items for it in call.clauses}
@@ -205,11 +214,10 @@ def documents():
 
 def print_unlisted(names):
     for crate in names.repo.crates:
-        text, lib = read("crates/" + crate + "/README.md"), names.repo.sources.get("crates/" + crate + "/src/lib.rt")
-        shown = set(NAME.findall(" ".join(re.findall(r"(?s)\bpub use ([^;]*);", lib.code)))) if lib else set()
+        text = read("crates/" + crate + "/README.md")
+        is_program = "crates/" + crate + "/src/lib.rt" not in names.repo.sources
         for it in names.calls.get(crate, []):
-            is_shown = it.is_public and (it.owner or it.name) in shown or lib and it.path == lib.path and it.is_public
-            if it.kind != "fn" or not is_shown or "/tests" in it.path:
+            if it.kind != "fn" or not names.is_shown(it) or is_program and (crate, it.name) != headline.TOP_CALL:
                 continue
             if "`" + it.name not in text and "::" + it.name not in text:
                 print(crate + ": " + it.full() + " " + it.path)
