@@ -64,7 +64,8 @@ class Names:
         lib = self.repo.sources.get("crates/" + item.crate + "/src/lib.rt")
         if not item.is_public or lib is None or item.path == lib.path:
             return item.is_public
-        handed_on = set(NAME.findall(" ".join(re.findall(r"(?s)\bpub use ([^;]*);", lib.code))))
+        uses = re.findall(r"(?s)\bpub use ([^;]*);", lib.code)
+        handed_on = {name for it in uses for name in NAME.findall(re.sub(r"\w+::", "", it))}
         open_files = ["crates/" + item.crate + "/src/" + it + ".rt" for it in re.findall(r"\bpub mod (\w+);", lib.code)]
         return (item.owner or item.name) in handed_on or item.path in open_files
 
