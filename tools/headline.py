@@ -215,7 +215,7 @@ def headline_page(repo):
     for crate, rows in order:
         lines += ["", "## `" + crate + "`"]
         for file, has, definitions in rows:
-            lines += ["", "### `" + file + "`", ""]
+            lines += ["", "### [`" + file + "`](../crates/" + file + (".antt" if has else "") + ")", ""]
             lines += [has + "."] * bool(has) + [""] * bool(has)
             lines += definition_lines(definitions)
     lines += ["", "## The toolchain's library", "", "Names of the library, by module, which its own pages (`rt doc`) define:", ""]
