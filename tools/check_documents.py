@@ -59,16 +59,6 @@ class Names:
                 else:
                     self.members.setdefault(item.name, set()).update(NAME.findall(item.text))
 
-    def is_shown(self, item):
-        """Whether a crate's users see an item: lib.rt hands it or its type on, or has it, or makes its file public."""
-        lib = self.repo.sources.get("crates/" + item.crate + "/src/lib.rt")
-        if not item.is_public or lib is None or item.path == lib.path:
-            return item.is_public
-        uses = re.findall(r"(?s)\bpub use ([^;]*);", lib.code)
-        handed_on = {name for it in uses for name in NAME.findall(re.sub(r"\w+::", "", it))}
-        open_files = ["crates/" + item.crate + "/src/" + it + ".rt" for it in re.findall(r"\bpub mod (\w+);", lib.code)]
-        return (item.owner or item.name) in handed_on or item.path in open_files
-
     def items(self, crate, name):
         """The items of a crate that a name stands for: `call`, `Type::call`, or a type with all its calls."""
         name = name.split("(")[0]
@@ -147,7 +137,7 @@ def check_calls(names, crate, path, fault):
             for span in spans:
                 found = names.items(crate, span)
                 items += found
-                if not any(names.is_shown(it) for it in found):
+                if not any(names.repo.is_shown(it) for it in found):
                     fault(path, number, "`" + span + "`: no public call of " + crate)
         else:
             clauses = {it for call in items for it in call.clauses}
@@ -218,7 +208,7 @@ def print_unlisted(names):
         text = read("crates/" + crate + "/README.md")
         is_program = "crates/" + crate + "/src/lib.rt" not in names.repo.sources
         for it in names.calls.get(crate, []):
-            if it.kind != "fn" or not names.is_shown(it) or is_program and (crate, it.name) != headline.TOP_CALL:
+            if it.kind != "fn" or not names.repo.is_shown(it) or is_program and (crate, it.name) != headline.TOP_CALL:
                 continue
             if "`" + it.name not in text and "::" + it.name not in text:
                 print(crate + ": " + it.full() + " " + it.path)

@@ -225,11 +225,25 @@ def headline_page(repo):
     return "\n".join(lines) + "\n"
 
 
+def public_files(repo):
+    """The files of specs/ that the contracts of public calls rest on."""
+    closure = Closure(repo)
+    for source in repo.sources.values():
+        for item in source.items:
+            if repo.is_shown(item):
+                for clauses in item.clauses.values():
+                    for _, text in clauses:
+                        closure.words(source.scope, {}, text, item.bounds, source)
+    closure.run()
+    return {file for file, _ in closure.found}
+
+
 def specs_table(repo):
-    lines = ["| File | Has |", "|---|---|"]
+    lines, public, private = ["| File | Has |", "|---|---|"], public_files(repo), "for the private parts alone"
     for crate in repo.crates:
         for file in repo.ordered_specs(crate):
-            lines.append("| `" + file.file + "` | " + file.has + " |")
+            alone = "" if file.file in public or private in file.has else " (named by no public contract)"
+            lines.append("| `" + file.file + "` | " + file.has + alone + " |")
     return lines
 
 

@@ -340,3 +340,13 @@ class Repository:
     def functions(self, crate=None):
         return [it for source in self.sources.values() for it in source.items
                 if it.kind == "fn" and (crate is None or it.crate == crate)]
+
+    def is_shown(self, item):
+        """Whether a crate's users see an item: lib.rt hands it or its type on, or has it, or makes its file public."""
+        lib = self.sources.get("crates/" + item.crate + "/src/lib.rt")
+        if not item.is_public or lib is None or item.path == lib.path:
+            return item.is_public
+        uses = re.findall(r"(?s)\bpub use ([^;]*);", lib.code)
+        handed_on = {name for it in uses for name in WORD.findall(re.sub(r"\w+::", "", it))}
+        open_files = ["crates/" + item.crate + "/src/" + it + ".rt" for it in re.findall(r"\bpub mod (\w+);", lib.code)]
+        return (item.owner or item.name) in handed_on or item.path in open_files
