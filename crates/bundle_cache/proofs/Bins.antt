@@ -9,14 +9,14 @@ use Rattle.item_slots.specs.Tags.{slot_value}
 use Rattle.psi_bundle.specs.declared.member.Member.{Member}
 use Rattle.psi_bundle.specs.Bins.{AreApart, roots_of}
 use Rattle.psi_bundle.proofs.BinChanges.{roots-distinct}
-use Rattle.bundle_cache.specs.Columns.{points_of}
+use Rattle.psi_bundle.specs.Planes.{label_points}
 
 -- the first numbers of the points are the roots
-points-places : (bin : List Member) (part unit : ℕ) → map (λ q. q.0) (points_of bin part unit) ≡ roots_of bin part
+points-places : (bin : List Member) (part unit : ℕ) → map (λ q. q.0) (label_points bin part unit) ≡ roots_of bin part
 points-places [] part unit = λ i. []
 points-places (m ∷ bin) part unit = ap (λ (xs : List ℕ). slot_value m.tag part ∷ xs) (points-places bin part unit)
 
-pub points-distinct : (bin : List Member) (part unit : ℕ) → AreApart bin → part < 5 → IsDistinct nat_eq (map (λ q. q.0) (points_of bin part unit))
+pub points-distinct : (bin : List Member) (part unit : ℕ) → AreApart bin → part < 5 → IsDistinct nat_eq (map (λ q. q.0) (label_points bin part unit))
 points-distinct bin part unit apart lt = subst (IsDistinct nat_eq) (sym (points-places bin part unit)) (roots-distinct bin part apart lt)
 
 -- the coefficients of a polynomial through points, also where it has none

@@ -13,6 +13,7 @@ use Rattle.psi_residue.specs.Parameters.{Parameters}
 use Rattle.psi_bundle.specs.declared.member.Member.{Member}
 use Rattle.psi_bundle.specs.Bins.{AreApart, accepts, bin_at, empty_bins, shares_slot}
 use Rattle.psi_bundle.proofs.BinChanges.{accepted-apart}
+use Rattle.psi_bundle.proofs.EmptyBundle.{bin_at-empty}
 use Rattle.psi_bundle.specs.Versions.{HasLabelLength, Version, row_at, bins_at, IsSound}
 use Rattle.bundle_cache.specs.Caches.{IsCacheable}
 
@@ -33,21 +34,12 @@ sound-cacheable v r u sound = record {
 
 -- ---- bundles that are filled member by member
 
-empty-bin : (b : ℕ) → bin_at empty_bins b ≡ []
-unfolding empty_bins
-empty-bin b =
-    let none : List Member = [] in
-    elim (cases_lt b 819) [
-      | inl inside ↦ get_or-replicate {A = List Member} 819 b none none inside
-      | inr past ↦ get_or_past (replicate 819 none) b none (omega (arith, past, length-replicate {A = List Member} 819 none))
-    ]
-
 -- a bundle without members
 pub cacheable-empty : (p : Parameters) → IsCacheable p empty_bins
 cacheable-empty p = record {
-  within_capacity = λ b. subst (λ (bin : List Member). length bin ≤ p.capacity) (sym (empty-bin b)) (omega arith);
-  apart = λ b. subst AreApart (sym (empty-bin b)) (λ i j d before within. absurd (omega arith));
-  labelled = λ b. subst (λ (bin : List Member). All (λ m. HasLabelLength p m.label) bin) (sym (empty-bin b)) (λ k d lt. absurd (omega arith));
+  within_capacity = λ b. subst (λ (bin : List Member). length bin ≤ p.capacity) (sym (bin_at-empty b)) (omega arith);
+  apart = λ b. subst AreApart (sym (bin_at-empty b)) (λ i j d before within. absurd (omega arith));
+  labelled = λ b. subst (λ (bin : List Member). All (λ m. HasLabelLength p m.label) bin) (sym (bin_at-empty b)) (λ k d lt. absurd (omega arith));
 }
 
 none-any : {X : Type 0} (p : X → Bool) (xs : List X) → list_any p xs ≡ false → (k : ℕ) (d : X) → k < length xs → p (get_or xs k d) ≡ false

@@ -7,7 +7,7 @@ use Rattle.negacyclic.specs.Transforms.{values_of}
 use Rattle.noise_ledger.specs.Verdicts.{ArePassed}
 use Rattle.psi_bundle.specs.declared.member.Member.{Member}
 use Rattle.psi_bundle.specs.Bins.{AreApart, bin_at}
-use Rattle.psi_bundle.specs.Planes.{packed_plane, planes_of_bundle}
+use Rattle.psi_bundle.specs.Planes.{packed_plane, planes_of_bundle, coefficients_of_plane}
 use Rattle.psi_bundle.specs.Versions.{HasLabelLength}
 use Rattle.row_block.specs.Rows.{Block}
 
@@ -24,7 +24,7 @@ row_words = 8192
 
 -- the rows of a bundle: one for each coefficient of each plane
 abbrev pub rows_of_bundle : Parameters → ℕ
-rows_of_bundle p = planes_of_bundle p * (p.capacity + 1)
+rows_of_bundle p = planes_of_bundle p * coefficients_of_plane p
 
 -- a block has the size of a bundle
 pub record IsBundleBlock (p : Parameters) (block : Block) : Type 0 where
@@ -37,7 +37,7 @@ transforms_of plain = values_of moduli.Q1 plain ++ values_of moduli.Q2 plain
 
 -- row number c, with c = plane·(capacity + 1) + k: the transforms of the packing of the plane's k-th coefficients
 unfoldable pub bundle_row : Parameters → List (List Member) → ℕ → List ℕ
-bundle_row p bins c = transforms_of (packed_plane p bins (c / (p.capacity + 1)) (c % (p.capacity + 1)))
+bundle_row p bins c = transforms_of (packed_plane p bins (c / coefficients_of_plane p) (c % coefficients_of_plane p))
 
 -- all rows of a bundle
 abbrev pub bundle_rows : Parameters → List (List Member) → List (List ℕ)

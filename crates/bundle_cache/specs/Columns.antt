@@ -1,12 +1,11 @@
 -- The coefficients of a plane side by side: for each power those of the 4096 slots.
-use Rattle.std.specs.Prelude.{◌≡◌, ℕ, ◌+◌, ◌*◌, ◌<◌, ◌≤◌, List, length, map, take, drop, slice_index}
+use Rattle.std.specs.Prelude.{◌≡◌, ℕ, ◌+◌, ◌*◌, ◌<◌, ◌≤◌, List, length, take, drop, slice_index}
 use Rattle.psi_residue.specs.Numbers.{plain_modulus, ring_degree}
 use Rattle.psi_residue.specs.Polynomials.{IsPolynomial}
 use Rattle.psi_residue.specs.Parameters.{Parameters}
 use Rattle.psi_residue.specs.Slots.{packed_list}
 use Rattle.psi_bundle.specs.declared.member.Member.{Member}
-use Rattle.item_slots.specs.Tags.{slot_value}
-use Rattle.psi_bundle.specs.Planes.{label_value, slot_coefficient}
+use Rattle.psi_bundle.specs.Planes.{coefficients_of_plane, slot_coefficient}
 use Rattle.bundle_cache.specs.Caches.{transforms_of}
 
 -- coefficient k of a slot
@@ -33,12 +32,12 @@ AreCells count columns = (k : ℕ) → k < count → IsCell columns k
 
 -- a plane's coefficients, for each power up to the capacity
 pub record AreColumns (p : Parameters) (bins : List (List Member)) (plane : ℕ) (columns : List ℕ) : Type 0 where
-  pub size : length columns ≡ ring_degree * (p.capacity + 1)
+  pub size : length columns ≡ ring_degree * coefficients_of_plane p
   pub each : (slot k : ℕ) → slot < ring_degree → k ≤ p.capacity → coefficient_at columns slot k ≡ slot_coefficient p bins plane slot k
 
 -- the slots below the count have their coefficients, the others 0
 pub record AreFilled (p : Parameters) (bins : List (List Member)) (plane count : ℕ) (columns : List ℕ) : Type 0 where
-  pub size : length columns ≡ ring_degree * (p.capacity + 1)
+  pub size : length columns ≡ ring_degree * coefficients_of_plane p
   pub done : (slot k : ℕ) → slot < count → k ≤ p.capacity → coefficient_at columns slot k ≡ slot_coefficient p bins plane slot k
   pub rest : (slot k : ℕ) → count ≤ slot → slot < ring_degree → coefficient_at columns slot k ≡ 0
 
@@ -48,7 +47,3 @@ pub record IsWritten (slot : ℕ) (coefficients : List ℕ) (count : ℕ) (old n
   pub here : (k : ℕ) → k < count → coefficient_at new slot k ≡ slice_index coefficients k
   pub above : (k : ℕ) → count ≤ k → coefficient_at new slot k ≡ coefficient_at old slot k
   pub others : (s k : ℕ) → s < ring_degree → (s ≡ slot → ⊥) → coefficient_at new s k ≡ coefficient_at old s k
-
--- the points of a part and label unit: at each member's root, the label's number 5·unit + part
-abbrev pub points_of : List Member → (part unit : ℕ) → List (ℕ × ℕ)
-points_of members part unit = map (λ m. (slot_value m.tag part, label_value m.label (5 * unit + part))) members

@@ -85,7 +85,8 @@ impl Cache {
         requires room { rows_of_bundle (parameters_of params.now) ≤ block.rows }
         ensures bundle { IfOk result (λ cache. cache.bins ≡ arc_value bundle) }
         ensures parameters { IfOk result (λ cache. cache.parameters ≡ parameters_of params.now) }
-        ensures rows { IfOk result (λ cache. cache.block ≡ holding block (bundle_rows (parameters_of params.now) (arc_value bundle))) }
+        ensures rows { IfOk result (λ cache. cache.block
+            ≡ holding block (bundle_rows (parameters_of params.now) (arc_value bundle))) }
         ensures refused { IfErr result (λ refused. refused.block ≡ block) }
     {
         let mut block = block;
@@ -115,7 +116,7 @@ impl Cache {
     pub(crate) fn planes(&self) -> usize
         ensures number { result ≡ planes_of_bundle self.now.parameters }
     {
-        1 + usize::from(self.params.units)
+        self.params.planes()
     }
 
     /// The highest power of a plane.
@@ -130,7 +131,8 @@ impl Cache {
         requires plane { plane < planes_of_bundle self.now.parameters }
         requires power { k ≤ self.now.parameters.capacity }
         requires list { list < 4 }
-        ensures values { result.now ≡ values_of (modulus_of_list list) (packed_plane self.now.parameters self.now.bins plane k) }
+        ensures values { result.now ≡ values_of (modulus_of_list list)
+            (packed_plane self.now.parameters self.now.bins plane k) }
         ensures reduced { IsPolynomial (modulus_of (modulus_of_list list)) result.now }
     {
         let row = self.row(plane, k);
@@ -141,7 +143,8 @@ impl Cache {
     fn row(&self, plane: usize, k: usize) -> &[u64]
         requires plane { plane < planes_of_bundle self.now.parameters }
         requires power { k ≤ self.now.parameters.capacity }
-        ensures transforms { result.now ≡ transforms_of (packed_plane self.now.parameters self.now.bins plane k) }
+        ensures transforms { result.now
+            ≡ transforms_of (packed_plane self.now.parameters self.now.bins plane k) }
         ensures size { length result.now ≡ row_words }
     {
         self.block.row(plane * (self.capacity() + 1) + k)
@@ -161,10 +164,11 @@ fn push_bundle<R: Threads + Sync>(
     requires empty { block.old.held ≡ [] }
     requires width { block.old.width ≡ row_words }
     requires room { rows_of_bundle (parameters_of params.now) ≤ block.old.rows }
-    ensures rows { OnOk result (block.new ≡ holding block.old (bundle_rows (parameters_of params.now) bundle.now)) }
+    ensures rows { OnOk result (block.new
+        ≡ holding block.old (bundle_rows (parameters_of params.now) bundle.now)) }
     ensures size { cleared block.new ≡ block.old }
 {
-    let count = usize::from(params.capacity) + 1;
+    let count = params.coefficients();
     for plane in 0..params.units + 1 {
         let columns = columns_of_plane(alloc, params, bundle, plane)?;
         push_columns(rt, alloc, &columns, count, block)?;

@@ -4,11 +4,11 @@ ghost use Rattle.std.specs.List.{All, AllPairs};
 ghost use Rattle.psi_residue.specs.Numbers.{plain_modulus, ring_degree};
 ghost use Rattle.psi_residue.specs.Interpolation.{interpolated};
 ghost use Rattle.noise_ledger.specs.Verdicts.{parameters_of};
-ghost use Rattle.item_slots.specs.Tags.{slot_value};
-ghost use Rattle.psi_bundle.specs.Planes.{label_value};
+ghost use Rattle.item_slots.specs.Tags.{parts_of_tag, slot_value};
+ghost use Rattle.psi_bundle.specs.Planes.{label_points, label_value};
 ghost use Rattle.psi_bundle.specs.Bins.{AreApart};
 ghost use Rattle.bundle_cache.specs.Caches.{IsCacheable};
-ghost use Rattle.bundle_cache.specs.Columns.{AreColumns, AreFilled, IsWritten, points_of};
+ghost use Rattle.bundle_cache.specs.Columns.{AreColumns, AreFilled, IsWritten};
 
 use byteorder::{BigEndian, ByteOrder};
 use item_slots::slots;
@@ -25,7 +25,7 @@ const LAST_SLOT: usize = 4095;
 
 /// The coefficients of a plane: for each power up to the capacity those of all slots. Plane 0 has the root polynomials, and
 /// plane u + 1 those of the label unit u. The last slot has the constant 1.
-pub fn columns_of_plane(
+pub(crate) fn columns_of_plane(
     alloc: Global,
     params: &Params,
     bundle: &Bundle,
@@ -33,9 +33,10 @@ pub fn columns_of_plane(
 ) -> Result<Vec<u32>, AllocError>
     requires cacheable { IsCacheable (parameters_of params.now) bundle.now }
     requires plane { plane ≤ params.now.units }
-    ensures { IfOk result (λ columns. AreColumns (parameters_of params.now) bundle.now plane columns.items) }
+    ensures { IfOk result (λ columns.
+        AreColumns (parameters_of params.now) bundle.now plane columns.items) }
 {
-    let mut columns = vec![in alloc; 0; N * (usize::from(params.capacity) + 1)]?;
+    let mut columns = vec![in alloc; 0; N * params.coefficients()]?;
     for slot in 0..LAST_SLOT {
         fill_slot(alloc, params, bundle, plane, slot, &mut columns)?;
     }
@@ -57,7 +58,8 @@ fn fill_slot(
     requires slot { slot < 4095 }
     requires filled { AreFilled (parameters_of params.now) bundle.now plane slot columns.old }
     ensures size { length columns.new ≡ length columns.old }
-    ensures filled { OnOk result (AreFilled (parameters_of params.now) bundle.now plane (slot + 1) columns.new) }
+    ensures filled { OnOk result (AreFilled (parameters_of params.now) bundle.now plane
+        (slot + 1) columns.new) }
 {
     let bin = (slot / PARTS) as u16;
     let part = (slot % PARTS) as u8;
@@ -89,11 +91,13 @@ fn label_polynomial(
     part: u8,
     unit: u8,
 ) -> Result<Vec<u32>, AllocError>
-    requires part { part < 5 }
+    requires part { part < parts_of_tag }
     requires apart { AreApart members.now }
     requires labelled { All (λ m. 10 * (unit + 1) ≤ length m.label) members.now }
     ensures size { IfOk result (λ polynomial. length polynomial.items ≡ length members.now) }
-    ensures coefficients { IfOk result (λ polynomial. (k : ℕ) → slice_index polynomial.items k ≡ interpolated (points_of members.now part unit) k) }
+    ensures coefficients { IfOk result
+        (λ polynomial. (k : ℕ) → slice_index polynomial.items k
+        ≡ interpolated (label_points members.now part unit) k) }
 {
     let points = points_of(alloc, members, part, unit)?;
     let mut polynomial = vec![in alloc; 0; members.len()]?;
@@ -108,10 +112,11 @@ fn points_of(
     part: u8,
     unit: u8,
 ) -> Result<Vec<(u32, u32)>, AllocError>
-    requires part { part < 5 }
+    requires part { part < parts_of_tag }
     requires labelled { All (λ m. 10 * (unit + 1) ≤ length m.label) members.now }
-    ensures points { IfOk result (λ points. points.items ≡ points_of members.now part unit) }
-    ensures below { IfOk result (λ points. All (λ p. (p.0 < plain_modulus) × (p.1 < plain_modulus)) points.items) }
+    ensures points { IfOk result (λ points. points.items ≡ label_points members.now part unit) }
+    ensures below { IfOk result (λ points.
+        All (λ p. (p.0 < plain_modulus) × (p.1 < plain_modulus)) points.items) }
 {
     let mut points = Vec::with_capacity(alloc, members.len())?;
     for member in members {
@@ -122,9 +127,13 @@ fn points_of(
 
 // A member's point of a part and label unit: its root there, and its label's number 5·unit + part.
 fn point_of(member: &Member, part: u8, unit: u8) -> (u32, u32)
-    requires part { part < 5 }
+    requires part { part < parts_of_tag }
     requires labelled { 10 * (unit + 1) ≤ length member.now.label }
-    ensures point { result ≡ (slot_value member.now.tag part, label_value member.now.label (5 * unit + part)) }
+    ensures point { result ≡ (
+      slot_value member.now.tag part,
+      label_value member.now.label
+          (parts_of_tag * unit + part),
+    ) }
     ensures below { (result.0 < plain_modulus) × (result.1 < plain_modulus) }
 {
     let root = slots(&member.tag)[usize::from(part)];

@@ -32,7 +32,8 @@ pub fn eval_into(
     requires query { powers.now.parameters ≡ cache.now.parameters }
     requires scratch { scratch.old.parameters ≡ cache.now.parameters }
     requires places { length out.old ≡ planes_of_bundle cache.now.parameters }
-    ensures evaluated { out.new ≡ evaluated_bundle cache.now.parameters powers.now.query row cache.now.bins }
+    ensures evaluated { out.new
+        ≡ evaluated_bundle cache.now.parameters powers.now.query row cache.now.bins }
     ensures scratch { scratch.new ≡ scratch.old }
 {
     for plane in 0..cache.planes() {
@@ -41,7 +42,7 @@ pub fn eval_into(
 }
 
 /// Writes the evaluation of one plane. `sum` has 4096 places, whose values do not matter.
-pub fn evaluate_plane(
+pub(crate) fn evaluate_plane(
     cache: &Cache,
     powers: &Powers,
     row: u8,
@@ -54,7 +55,8 @@ pub fn evaluate_plane(
     requires query { powers.now.parameters ≡ cache.now.parameters }
     requires places { length sum.old ≡ ring_degree }
     ensures size { length sum.new ≡ ring_degree }
-    ensures evaluated { out.new ≡ evaluated_plane cache.now.parameters powers.now.query row cache.now.bins plane }
+    ensures evaluated { out.new
+        ≡ evaluated_plane cache.now.parameters powers.now.query row cache.now.bins plane }
     ensures whole { IsCiphertext out.new }
 {
     for list in 0..4 {
@@ -70,7 +72,8 @@ fn evaluate_list(cache: &Cache, powers: &Powers, row: u8, plane: usize, list: u8
     requires list { list < 4 }
     requires query { powers.now.parameters ≡ cache.now.parameters }
     requires places { length sum.old ≡ ring_degree }
-    ensures evaluated { sum.new ≡ list_at (evaluated_plane cache.now.parameters powers.now.query row cache.now.bins plane) list }
+    ensures evaluated { sum.new ≡ list_at
+        (evaluated_plane cache.now.parameters powers.now.query row cache.now.bins plane) list }
     ensures reduced { IsPolynomial (list_modulus list) sum.new }
 {
     let m = list_modulus(list);

@@ -15,7 +15,7 @@ mod scratch;
 pub use cache::{BuildRefused, Cache};
 pub use evaluation::eval_into;
 pub use powers::Powers;
-pub use scratch::Scratch;
+pub use scratch::{Scratch, open_block};
 
 #[cfg(test)]
 mod tests;

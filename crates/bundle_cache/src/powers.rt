@@ -56,9 +56,13 @@ impl Powers {
         requires row { row < self.now.parameters.rows }
         requires power { power < self.now.parameters.capacity }
         requires list { list < 4 }
-        ensures values { result.now ≡ values_of (modulus_of_list list) (list_at (ciphertext_at self.now.query (row * self.now.parameters.capacity + power)) list) }
+        ensures values { result.now ≡ values_of (modulus_of_list list)
+            (list_at (ciphertext_at self.now.query
+            (row * self.now.parameters.capacity + power)) list) }
         ensures reduced { IsPolynomial (modulus_of (modulus_of_list list)) result.now }
-        ensures polynomial { IsPolynomial (modulus_of (modulus_of_list list)) (list_at (ciphertext_at self.now.query (row * self.now.parameters.capacity + power)) list) }
+        ensures polynomial { IsPolynomial (modulus_of (modulus_of_list list))
+            (list_at (ciphertext_at self.now.query
+            (row * self.now.parameters.capacity + power)) list) }
     {
         let place = usize::from(row) * usize::from(self.params.capacity) + power;
         self.transforms[place].residues(list)
@@ -66,7 +70,7 @@ impl Powers {
 }
 
 /// The modulus of residue list number `list`.
-pub fn list_modulus(list: u8) -> Modulus
+pub(crate) fn list_modulus(list: u8) -> Modulus
     ensures { result ≡ modulus_of_list list }
 {
     if list % 2 == 0 {

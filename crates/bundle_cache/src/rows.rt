@@ -79,7 +79,7 @@ fn widen(plain: &[u32], out: &mut [u64])
 }
 
 /// Pushes a plane's rows, one for each of `count` powers. They are made in threads, at most 64 at a time.
-pub fn push_columns<R: Threads + Sync>(
+pub(crate) fn push_columns<R: Threads + Sync>(
     rt: &R,
     alloc: Global,
     columns: &[u32],
@@ -90,7 +90,9 @@ pub fn push_columns<R: Threads + Sync>(
     requires few { count ≤ 4096 }
     requires width { block.old.width ≡ row_words }
     requires room { length block.old.held + count ≤ block.old.rows }
-    ensures rows { OnOk result (block.new ≡ holding block.old (block.old.held ++ map (row_of_column columns.now) (range_with_len 0 count))) }
+    ensures rows { OnOk result (block.new
+        ≡ holding block.old (block.old.held
+        ++ map (row_of_column columns.now) (range_with_len 0 count))) }
     ensures size { cleared block.new ≡ cleared block.old }
 {
     let mut done = 0;
@@ -113,7 +115,8 @@ fn rows_of<R: Threads + Sync>(
 ) -> Result<Vec<Row>, AllocError>
     requires cells { AreCells (first + size) columns.now }
     requires few { first + size ≤ 4096 }
-    ensures { IfOk result (λ rows. rows.items ≡ map (row_of_column columns.now) (range_with_len first size)) }
+    ensures { IfOk result (λ rows. rows.items
+        ≡ map (row_of_column columns.now) (range_with_len first size)) }
 {
     (first as u32..(first + size) as u32)
         .into_par_iter()

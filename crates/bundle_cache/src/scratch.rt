@@ -20,6 +20,20 @@ use std::marker::Model;
 // The words of a row.
 const ROW_WORDS: usize = 2 * N;
 
+/// A block of a bundle's size, without rows: it has room for `(1 + units)·(capacity + 1)` rows of 8192 words. The parameters
+/// are passed ones.
+///
+/// # Errors
+///
+/// If memory runs out.
+pub fn open_block(alloc: Global, params: &Params) -> Result<RowBlock, AllocError>
+    requires { ArePassed (parameters_of params.now) }
+    ensures { IfOk result (λ block. block
+        ≡ empty_block (rows_of_bundle (parameters_of params.now)) row_words) }
+{
+    RowBlock::open(alloc, params.block_rows(), ROW_WORDS)
+}
+
 /// The sums of one lane and a block, for sets with one set of parameters.
 ///
 /// In contracts it is the parameters, and the block where it is there: one that holds no row and has the size of a bundle,
@@ -49,11 +63,12 @@ impl Scratch {
     /// are passed ones. `Err` is want of memory; no other call takes any.
     pub fn open(alloc: Global, params: &Params) -> Result<Scratch, AllocError>
         requires { ArePassed (parameters_of params.now) }
-        ensures parameters { IfOk result (λ scratch. scratch.parameters ≡ parameters_of params.now) }
-        ensures block { IfOk result (λ scratch. scratch.block ≡ Some (empty_block (rows_of_bundle (parameters_of params.now)) row_words)) }
+        ensures parameters { IfOk result
+            (λ scratch. scratch.parameters ≡ parameters_of params.now) }
+        ensures block { IfOk result (λ scratch. scratch.block
+            ≡ Some (empty_block (rows_of_bundle (parameters_of params.now)) row_words)) }
     {
-        let rows = (1 + usize::from(params.units)) * (usize::from(params.capacity) + 1);
-        let block = RowBlock::open(alloc, rows, ROW_WORDS)?;
+        let block = open_block(alloc, params)?;
         Ok(Scratch {
             params: *params,
             sum: vec![in alloc; 0; N]?,
@@ -74,7 +89,8 @@ impl Scratch {
     /// size of a bundle.
     pub fn give_block(&mut self, block: RowBlock) -> Option<RowBlock>
         requires { IsBundleBlock self.old.parameters block }
-        ensures kept { self.old.block ≡ None → (result ≡ None) × (self.new ≡ record self.old { block = Some (cleared block) }) }
+        ensures kept { self.old.block ≡ None → (result ≡ None)
+            × (self.new ≡ record self.old { block = Some (cleared block) }) }
         ensures full { IsSome self.old.block → (result ≡ Some block) × (self.new ≡ self.old) }
     {
         if self.block.is_some() {
@@ -99,7 +115,8 @@ impl Scratch {
         requires plane { plane < planes_of_bundle cache.now.parameters }
         requires query { powers.now.parameters ≡ cache.now.parameters }
         ensures scratch { self.new ≡ self.old }
-        ensures evaluated { out.new ≡ evaluated_plane cache.now.parameters powers.now.query row cache.now.bins plane }
+        ensures evaluated { out.new
+            ≡ evaluated_plane cache.now.parameters powers.now.query row cache.now.bins plane }
     {
         evaluate_plane(cache, powers, row, plane, &mut self.sum, out);
     }

@@ -10,7 +10,11 @@ use Rattle.byteorder.specs.Endian.{big_number}
 abbrev pub bins_of_row : ℕ
 bins_of_row = 819
 
--- the parts of a tag, each with a slot value
+-- how many parts a tag has, each with a slot value
+abbrev pub parts_of_tag : ℕ
+parts_of_tag = 5
+
+-- their numbers
 abbrev pub parts : List ℕ
 parts = 0 ∷ 1 ∷ 2 ∷ 3 ∷ 4 ∷ []
 

@@ -38,7 +38,7 @@ job-stands start es t h = (length es, omega arith, ap (λ (v : Version). bundle_
 
 module _ {C : Type 0} (contents : C → List (List Member)) (is_under : C → List ℕ → Type 0) where
   pub history-of : (h : Contents C) → IsConsistent contents is_under h → IsHistory (origin_of h) h.journal
-  history-of h is = record { begun = is.begun; few = is.few; legal = is.legal; sound = subst IsSound (sym is.replayed) is.sound }
+  history-of h is = record { begun = is.begun; few = is.few; legal = is.legal; sound = subst IsSound (sym is.replayed) is.sound; bytes = is.bytes.start; calls = is.bytes.calls }
 
   pub book-of : (h : Contents C) → IsConsistent contents is_under h → IsBookOf contents is_under (origin_of h) h.journal h
   book-of h is = record { consistent = is; origin = refl; history = refl }

@@ -10,9 +10,6 @@ use Rattle.sender_core.specs.Given.{IsViewOf, IsJobOf}
 use Rattle.sender_core.specs.Tries.{job_of}
 use Rattle.live_sender.proofs.Going.{view-goes, job-goes}
 
-pub prefix-then : (es fs gs : List Entry) → IsPrefix es fs → IsPrefix fs gs → IsPrefix es gs
-prefix-then es fs gs p q = (p.0 ++ q.0, q.1 ∙ ap (λ (l : List Entry). l ++ q.0) p.1 ∙ append_assoc es p.0 q.0)
-
 -- a view that was given
 pub view-here : {C : Type 0} (start : Version) (es : List Entry) (o : Option (RowSight C)) (v : RowSight C) → IfSome o (IsViewOf start es) → o ≡ Some v → IsViewOf start es v
 view-here start es o v given is = subst (λ (p : Option _). IfSome p (IsViewOf start es)) is given

@@ -1,6 +1,7 @@
 -- What a call of a sender tells the seat that made it.
-use Rattle.std.specs.Prelude.{◌≡◌, ℕ, List, [], ◌∷◌, ◌++◌, length}
+use Rattle.std.specs.Prelude.{◌≡◌, ℕ, ◌-◌, ◌≤◌, min, List, [], ◌∷◌, ◌++◌, length, Some}
 use Rattle.psi_turnstile.specs.declared.view.View.{View}
+use Rattle.psi_turnstile.specs.Counting.{IsPrefix}
 use Rattle.psi_turnstile.specs.Knowing.{Follows, Keeps, Places}
 use Rattle.psi_turnstile.specs.Rule.{opener}
 use Rattle.psi_bundle.specs.declared.member.Member.{Member}
@@ -15,9 +16,11 @@ use Rattle.sender_core.specs.Kept as kept
 use Rattle.sender_core.specs.Answers.{cause_at}
 use Rattle.sender_core.specs.Events.{IsShown}
 use Rattle.sender_core.specs.Given.{IsViewOf, IsJobOf, bare_rows}
+use Rattle.sender_core.specs.Installs.{IsBareOf}
 use Rattle.sender_core.specs.Tries.{job_of}
+use Rattle.psi_bundle.specs.Histories.{most_entries}
 use Rattle.live_sender.specs.declared.origin.Origin.{Origin}
-use Rattle.live_sender.specs.Histories.{origin_of, first_version, IsHistory}
+use Rattle.live_sender.specs.Histories.{origin_of, first_version, IsHistory, IsBookOf}
 use Rattle.live_sender.specs.Tries.{IsStanding}
 
 -- what a seat of a sender knows
@@ -33,6 +36,22 @@ pub record Went (z : Origin) (v w : Known) : Type 0 where
   pub follows : Follows w.seen v
   pub keeps : Keeps v w
   pub places : Places (length w.seen) w
+  pub history : IsHistory z w.seen
+
+-- one turn of a seat of this sender, whose base it has
+abbrev pub TakesTurn : Known → Known → Type 0
+TakesTurn v w = (z : Origin) × (v.base ≡ Some z) × Went z v w
+
+-- A seat from which nothing taken in is left to be seen, and which has seen a history of its base.
+pub record IsSeated (z : Origin) (v : Known) : Type 0 where
+  pub base : v.base ≡ Some z
+  pub taken : v.taken ≡ []
+  pub history : IsHistory z v.seen
+
+-- The seat goes on from v to w, along a history of its base, and nothing taken in is left to be seen.
+pub record GoesOn (z : Origin) (v w : Known) : Type 0 where
+  pub follows : IsPrefix v.seen w.seen
+  pub keeps : Keeps v w
   pub history : IsHistory z w.seen
 
 -- The turn met the history `met` and added one entry, which is the last that the seat has seen, and whose place is its last own place
@@ -70,3 +89,11 @@ module _ {C : Type 0} (contents : C → List (List Member)) (is_under : C → Li
   abbrev pub IsGivenAt : Bare C → Type 0
   IsGivenAt (bare.All shown) = ShowsAt (length es) shown × (bare_rows 0 shown.rows ≡ [])
   IsGivenAt (bare.One task) = IsStanding (first_version z) es (job_of task) × IsJobOf (first_version z) es (job_of task)
+
+  -- what a fetch gives of some book with this history: where some bundle has no cache, the one with the number `skip` modulo their number
+  abbrev pub IsBareAt : ℕ → Bare C → Type 0
+  IsBareAt skip given = (h : Contents C) × IsBookOf contents is_under z es h × IsBareOf h skip given
+
+  -- some book with this history has room for so many entries more, or for all that a journal may have
+  abbrev pub HasRoomAt : ℕ → Type 0
+  HasRoomAt entries = (h : Contents C) × IsBookOf contents is_under z es h × (min entries (most_entries - length es) ≤ h.room)

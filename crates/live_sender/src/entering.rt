@@ -12,7 +12,7 @@ ghost use Rattle.live_sender.specs.Histories.{first_version};
 ghost use Rattle.live_sender.specs.Acts.{DoesCall};
 ghost use Rattle.live_sender.specs.Turns.{ShowsAt};
 
-use crate::live::Live;
+use crate::live::{Live, know};
 use item_slots::Tag;
 use psi_bundle::{Bundle, Cached, Label};
 use psi_turnstile::Act;
@@ -37,7 +37,7 @@ impl<C: Cached + Drop> Act<Live<C>> for Puts {
 
     fn act(&mut self, live: &mut Live<C>) -> Result<Placed<Put>, Refusal> {
         let answer = live.book.put(self.alloc, self.tag, self.label);
-        let _ = live.book.count();
+        know(&live.book);
         answer
     }
 
@@ -60,7 +60,7 @@ impl<C: Cached + Drop> Act<Live<C>> for Drops {
 
     fn act(&mut self, live: &mut Live<C>) -> Result<Placed<DropAnswer>, Refusal> {
         let answer = live.book.drop_tag(self.alloc, self.tag);
-        let _ = live.book.count();
+        know(&live.book);
         answer
     }
 
@@ -81,9 +81,9 @@ impl<C: Cached + Drop> Act<Live<C>> for Asks {
     ghost does = { λ _ z met _ after out. DoesCall (λ _. Seen) Call.Ask z met after out × IfOk out (λ p. ShowsAt C.contents C.is_under z after p.place p.answer) };
 
     fn act(&mut self, live: &mut Live<C>) -> Result<Placed<Snapshot<C>>, Refusal> {
-        let _ = live.book.count();
+        know(&live.book);
         let answer = live.book.ask(self.alloc);
-        let _ = live.book.count();
+        know(&live.book);
         answer
     }
 
@@ -108,7 +108,7 @@ impl<'a, C: Cached + Drop> Act<Live<C>> for Repacks<'a, C> {
     fn act(&mut self, live: &mut Live<C>) -> Result<Placed<RepackAnswer>, Refusal> {
         let packed = mem::replace(&mut self.packed, Vec::new(self.alloc));
         let answer = live.book.repack(self.alloc, self.view, packed);
-        let _ = live.book.count();
+        know(&live.book);
         answer
     }
 

@@ -1,5 +1,6 @@
 //! A book as a turnstile keeps it.
 ghost use Rattle.std.specs.Prelude.{◌≡◌, length};
+ghost use Rattle.sender_core.specs.Kept.{IsConsistent};
 ghost use Rattle.live_sender.specs.Histories.{origin_of};
 
 use crate::origin::Origin;
@@ -34,4 +35,11 @@ impl<C: Cached + Drop> Kept for Live<C> {
     fn count(&self) -> u64 {
         self.book.count()
     }
+}
+
+/// What is true of every book, which its type keeps and its calls tell. It does nothing: the clause is what it is for.
+pub(crate) fn know<C: Cached + Drop>(book: &Book<C>)
+    ensures { IsConsistent C.contents C.is_under book.now }
+{
+    let _ = book.count();
 }

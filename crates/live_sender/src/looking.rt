@@ -1,16 +1,15 @@
 //! The acts that add no entry.
-ghost use Rattle.std.specs.Prelude.{◌≡◌, ◌<◌, ◌≤◌, ◌++◌, length, IfOk, Some};
+ghost use Rattle.std.specs.Prelude.{◌≡◌, ◌<◌, ◌≤◌, ◌++◌, length, IfOk, OnOk, Some};
 ghost use Rattle.psi_residue.specs.Parameters.{parameter_bytes};
 ghost use Rattle.sender_core.specs.Given.{IsJobOf};
-ghost use Rattle.sender_core.specs.Installs.{IsBareOf};
 ghost use Rattle.sender_core.specs.Tries.{job_of};
 ghost use Rattle.sender_core.proofs.Interleaving.{job-more};
-ghost use Rattle.live_sender.specs.Histories.{first_version, IsBookOf};
+ghost use Rattle.live_sender.specs.Histories.{first_version};
 ghost use Rattle.live_sender.specs.Acts.{Stays};
-ghost use Rattle.live_sender.specs.Turns.{ViewsRow, IsGivenAt};
+ghost use Rattle.live_sender.specs.Turns.{ViewsRow, IsBareAt, HasRoomAt};
 ghost use Rattle.live_sender.specs.Tries.{IsTriedAt};
 
-use crate::live::Live;
+use crate::live::{Live, know};
 use psi_bundle::Cached;
 use psi_turnstile::Act;
 use sender_core::{Bare, Install, RowView, Task};
@@ -28,11 +27,11 @@ impl<C: Cached + Drop> Act<Live<C>> for Reserves {
 
     ghost can = { λ a _ _. a.entries ≤ 4096 };
 
-    ghost does = { λ _ z met _ after _. Stays z met after };
+    ghost does = { λ a z met _ after out. Stays z met after × OnOk out (HasRoomAt C.contents C.is_under z after a.entries) };
 
     fn act(&mut self, live: &mut Live<C>) -> Result<(), AllocError> {
         let answer = live.book.reserve(self.alloc, self.entries);
-        let _ = live.book.count();
+        know(&live.book);
         answer
     }
 
@@ -54,7 +53,7 @@ impl<C: Cached + Drop> Act<Live<C>> for FetchesRow {
     ghost does = { λ a z met _ after out. Stays z met after × IfOk out (ViewsRow C.contents C.is_under z after a.row) };
 
     fn act(&mut self, live: &mut Live<C>) -> Result<RowView<C>, AllocError> {
-        let _ = live.book.count();
+        know(&live.book);
         live.book.fetch_row(self.alloc, self.row)
     }
 
@@ -73,10 +72,10 @@ impl<C: Cached + Drop> Act<Live<C>> for FetchesBare {
 
     ghost can = { λ _ _ _. Unit {0} };
 
-    ghost does = { λ a z met _ after out. Stays z met after × IfOk out (λ given. (h : _) × IsBookOf C.contents C.is_under z after h × IsBareOf h a.skip given) };
+    ghost does = { λ a z met _ after out. Stays z met after × IfOk out (IsBareAt C.contents C.is_under z after a.skip) };
 
     fn act(&mut self, live: &mut Live<C>) -> Result<Bare<C>, AllocError> {
-        let _ = live.book.count();
+        know(&live.book);
         live.book.fetch_bare(self.alloc, self.skip)
     }
 
@@ -99,7 +98,7 @@ impl<'a, C: Cached + Drop> Act<Live<C>> for Installs<'a, C> {
     ghost does = { λ a z met _ after out. Stays z met after × IfOk out (λ tried. (c : C) × (a.cache ≡ Some c) × IsTriedAt (first_version z) after (job_of a.task.now) c tried) };
 
     fn act(&mut self, live: &mut Live<C>) -> Result<Install<C>, AllocError> {
-        let _ = live.book.count();
+        know(&live.book);
         let cache = self.cache.take().unwrap();
         live.book.install(self.alloc, self.task, cache)
     }

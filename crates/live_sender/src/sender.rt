@@ -1,5 +1,5 @@
 //! The sender.
-ghost use Rattle.std.specs.Prelude.{◌≡◌, ◌<◌, ◌≤◌, ◌+◌, ◌^◌, ℕ, length, IfOk, IfErr, Some};
+ghost use Rattle.std.specs.Prelude.{◌≡◌, ◌<◌, ◌≤◌, ◌+◌, ◌^◌, ℕ, length, IfOk, IfErr, OnOk, Some};
 ghost use Rattle.atomic_table.specs.Seated.{TableId};
 ghost use Rattle.psi_turnstile.specs.Counting.{times};
 ghost use Rattle.psi_turnstile.specs.Knowing.{saw, keeps_rest, takes_half, joined, Follows, Places};
@@ -10,16 +10,15 @@ ghost use Rattle.psi_bundle.specs.Versions.{HasLabelLength};
 ghost use Rattle.psi_bundle.specs.Shows.{packed_bins};
 ghost use Rattle.sender_core.specs.Kept.{row_of, IsConsistent};
 ghost use Rattle.sender_core.specs.Given.{IsViewOf, IsJobOf};
-ghost use Rattle.sender_core.specs.Installs.{IsBareOf};
 ghost use Rattle.sender_core.specs.Tries.{job_of};
 ghost use Rattle.sender_core.specs.Answers.{answer_of_put, answer_of_drop, answer_of_repack};
 ghost use Rattle.live_sender.specs.declared.origin.Origin.{Origin};
-ghost use Rattle.live_sender.specs.Histories.{origin_of, first_version, IsHistory, IsBookOf};
-ghost use Rattle.live_sender.specs.Turns.{first_seat, Went, Entered, Stayed, Refused, ShowsAt, ViewsRow, IsGivenAt};
+ghost use Rattle.live_sender.specs.Histories.{origin_of, first_version, IsHistory};
+ghost use Rattle.live_sender.specs.Turns.{first_seat, TakesTurn, Entered, Stayed, Refused, ShowsAt, ViewsRow, IsGivenAt, IsBareAt, HasRoomAt};
 ghost use Rattle.live_sender.specs.Tries.{IsTriedAt, NamesIfInstalled};
 
 use crate::entering::{Asks, Drops, Puts, Repacks};
-use crate::live::Live;
+use crate::live::{Live, know};
 use crate::looking::{FetchesBare, FetchesRow, Installs, Reserves};
 use item_slots::Tag;
 use psi_bundle::{Bundle, Cached, Label};
@@ -63,7 +62,7 @@ impl<C: Cached + Drop> Sender<C> {
         ensures history { IsHistory (origin_of book) book.journal }
         ensures refused { IfErr result (λ r. r.book ≡ book) }
     {
-        let _ = book.count();
+        know(&book);
         match Turnstile::open(alloc, Live { book }) {
             Ok((turnstile, seat)) => Ok((Sender { turnstile }, seat)),
             Err(OpenRefused { book: live }) => {
@@ -74,7 +73,7 @@ impl<C: Cached + Drop> Sender<C> {
     }
 
     /// Takes room in the journal for so many entries more, or for all up to the limit of 2^20 entries. Condition: at most
-    /// 4096 entries. It makes no entry.
+    /// 4096 entries. It makes no entry. Which room the book of a later turn has is not told: each entry uses it up.
     pub fn reserve<R: Threads + Wait + Sync>(
         &self,
         rt: &R,
@@ -85,8 +84,10 @@ impl<C: Cached + Drop> Sender<C> {
         requires here { seat.old.turnstile ≡ self.now }
         requires few { entries ≤ 4096 }
         ensures here { seat.new.turnstile ≡ seat.old.turnstile }
-        ensures went { (z : Origin) × (seat.old.knows.base ≡ Some z) × Went z seat.old.knows seat.new.knows }
+        ensures went { TakesTurn seat.old.knows seat.new.knows }
         ensures stayed { Stayed seat.old.knows seat.new.knows }
+        ensures of_book { (z : Origin) → seat.old.knows.base ≡ Some z →
+            OnOk result (HasRoomAt C.contents C.is_under z seat.new.knows.seen entries) }
     {
         let mut act = Reserves { alloc, entries };
         self.turnstile.turn(rt, seat, &mut act).0
@@ -105,10 +106,13 @@ impl<C: Cached + Drop> Sender<C> {
         label: Label,
     ) -> Result<Placed<Put>, Refusal>
         requires here { seat.old.turnstile ≡ self.now }
-        requires length { (z : Origin) → seat.old.knows.base ≡ Some z → HasLabelLength z.parameters label }
+        requires length { (z : Origin) → seat.old.knows.base ≡ Some z →
+            HasLabelLength z.parameters label }
         ensures here { seat.new.turnstile ≡ seat.old.turnstile }
-        ensures went { (z : Origin) × (seat.old.knows.base ≡ Some z) × Went z seat.old.knows seat.new.knows }
-        ensures entered { IfOk result (λ p. Entered seat.old.knows seat.new.knows (Call.Put tag label) (answer_of_put p.answer) p.place) }
+        ensures went { TakesTurn seat.old.knows seat.new.knows }
+        ensures entered { IfOk result
+            (λ p. Entered seat.old.knows seat.new.knows (Call.Put tag label)
+            (answer_of_put p.answer) p.place) }
         ensures refused { IfErr result (Refused seat.old.knows seat.new.knows) }
     {
         let mut act = Puts { alloc, tag, label };
@@ -128,8 +132,10 @@ impl<C: Cached + Drop> Sender<C> {
     ) -> Result<Placed<DropAnswer>, Refusal>
         requires { seat.old.turnstile ≡ self.now }
         ensures here { seat.new.turnstile ≡ seat.old.turnstile }
-        ensures went { (z : Origin) × (seat.old.knows.base ≡ Some z) × Went z seat.old.knows seat.new.knows }
-        ensures entered { IfOk result (λ p. Entered seat.old.knows seat.new.knows (Call.Drop tag) (answer_of_drop p.answer) p.place) }
+        ensures went { TakesTurn seat.old.knows seat.new.knows }
+        ensures entered { IfOk result
+            (λ p. Entered seat.old.knows seat.new.knows (Call.Drop tag)
+            (answer_of_drop p.answer) p.place) }
         ensures refused { IfErr result (Refused seat.old.knows seat.new.knows) }
     {
         let mut act = Drops { alloc, tag };
@@ -148,9 +154,12 @@ impl<C: Cached + Drop> Sender<C> {
     ) -> Result<Placed<Snapshot<C>>, Refusal>
         requires { seat.old.turnstile ≡ self.now }
         ensures here { seat.new.turnstile ≡ seat.old.turnstile }
-        ensures went { (z : Origin) × (seat.old.knows.base ≡ Some z) × Went z seat.old.knows seat.new.knows }
-        ensures entered { IfOk result (λ p. Entered seat.old.knows seat.new.knows Call.Ask Seen p.place) }
-        ensures showed { (z : Origin) → seat.old.knows.base ≡ Some z → IfOk result (λ p. ShowsAt C.contents C.is_under z seat.new.knows.seen p.place p.answer) }
+        ensures went { TakesTurn seat.old.knows seat.new.knows }
+        ensures entered { IfOk result
+            (λ p. Entered seat.old.knows seat.new.knows Call.Ask Seen p.place) }
+        ensures showed { (z : Origin) → seat.old.knows.base ≡ Some z →
+            IfOk result
+            (λ p. ShowsAt C.contents C.is_under z seat.new.knows.seen p.place p.answer) }
         ensures refused { IfErr result (Refused seat.old.knows seat.new.knows) }
     {
         let mut act = Asks { alloc };
@@ -169,9 +178,10 @@ impl<C: Cached + Drop> Sender<C> {
         requires here { seat.old.turnstile ≡ self.now }
         requires row { (z : Origin) → seat.old.knows.base ≡ Some z → row < z.parameters.rows }
         ensures here { seat.new.turnstile ≡ seat.old.turnstile }
-        ensures went { (z : Origin) × (seat.old.knows.base ≡ Some z) × Went z seat.old.knows seat.new.knows }
+        ensures went { TakesTurn seat.old.knows seat.new.knows }
         ensures stayed { Stayed seat.old.knows seat.new.knows }
-        ensures viewed { (z : Origin) → seat.old.knows.base ≡ Some z → IfOk result (ViewsRow C.contents C.is_under z seat.new.knows.seen row) }
+        ensures viewed { (z : Origin) → seat.old.knows.base ≡ Some z →
+            IfOk result (ViewsRow C.contents C.is_under z seat.new.knows.seen row) }
     {
         let mut act = FetchesRow { alloc, row };
         self.turnstile.turn(rt, seat, &mut act).0
@@ -192,11 +202,15 @@ impl<C: Cached + Drop> Sender<C> {
         packed: Vec<Bundle>,
     ) -> Result<Placed<RepackAnswer>, Refusal>
         requires here { seat.old.turnstile ≡ self.now }
-        requires of_history { (z : Origin) → seat.old.knows.base ≡ Some z → IsViewOf (first_version z) seat.old.knows.seen view.now }
-        requires packed { (z : Origin) → seat.old.knows.base ≡ Some z → packed.items ≡ packed_bins z.parameters.capacity (row_of view.now.bundles) }
+        requires of_history { (z : Origin) → seat.old.knows.base ≡ Some z →
+            IsViewOf (first_version z) seat.old.knows.seen view.now }
+        requires packed { (z : Origin) → seat.old.knows.base ≡ Some z → packed.items
+            ≡ packed_bins z.parameters.capacity (row_of view.now.bundles) }
         ensures here { seat.new.turnstile ≡ seat.old.turnstile }
-        ensures went { (z : Origin) × (seat.old.knows.base ≡ Some z) × Went z seat.old.knows seat.new.knows }
-        ensures entered { IfOk result (λ p. Entered seat.old.knows seat.new.knows (Call.Repack view.now.row view.now.from) (answer_of_repack p.answer) p.place) }
+        ensures went { TakesTurn seat.old.knows seat.new.knows }
+        ensures entered { IfOk result
+            (λ p. Entered seat.old.knows seat.new.knows (Call.Repack view.now.row view.now.from)
+            (answer_of_repack p.answer) p.place) }
         ensures refused { IfErr result (Refused seat.old.knows seat.new.knows) }
     {
         let mut act = Repacks {
@@ -218,10 +232,12 @@ impl<C: Cached + Drop> Sender<C> {
     ) -> Result<Bare<C>, AllocError>
         requires { seat.old.turnstile ≡ self.now }
         ensures here { seat.new.turnstile ≡ seat.old.turnstile }
-        ensures went { (z : Origin) × (seat.old.knows.base ≡ Some z) × Went z seat.old.knows seat.new.knows }
+        ensures went { TakesTurn seat.old.knows seat.new.knows }
         ensures stayed { Stayed seat.old.knows seat.new.knows }
-        ensures given { (z : Origin) → seat.old.knows.base ≡ Some z → IfOk result (IsGivenAt C.contents C.is_under z seat.new.knows.seen) }
-        ensures of_book { (z : Origin) → seat.old.knows.base ≡ Some z → IfOk result (λ given. (h : _) × IsBookOf C.contents C.is_under z seat.new.knows.seen h × IsBareOf h skip given) }
+        ensures given { (z : Origin) → seat.old.knows.base ≡ Some z →
+            IfOk result (IsGivenAt C.contents C.is_under z seat.new.knows.seen) }
+        ensures of_book { (z : Origin) → seat.old.knows.base ≡ Some z →
+            IfOk result (IsBareAt C.contents C.is_under z seat.new.knows.seen skip) }
     {
         let mut act = FetchesBare { alloc, skip };
         self.turnstile.turn(rt, seat, &mut act).0
@@ -241,14 +257,18 @@ impl<C: Cached + Drop> Sender<C> {
         cache: C,
     ) -> Result<Install<C>, AllocError>
         requires here { seat.old.turnstile ≡ self.now }
-        requires of_history { (z : Origin) → seat.old.knows.base ≡ Some z → IsJobOf (first_version z) seat.old.knows.seen (job_of task.now) }
+        requires of_history { (z : Origin) → seat.old.knows.base ≡ Some z →
+            IsJobOf (first_version z) seat.old.knows.seen (job_of task.now) }
         requires same_bins { C.contents cache ≡ (job_of task.now).bins }
-        requires same_parameters { (z : Origin) → seat.old.knows.base ≡ Some z → C.is_under cache (parameter_bytes z.parameters) }
+        requires same_parameters { (z : Origin) → seat.old.knows.base ≡ Some z →
+            C.is_under cache (parameter_bytes z.parameters) }
         ensures here { seat.new.turnstile ≡ seat.old.turnstile }
-        ensures went { (z : Origin) × (seat.old.knows.base ≡ Some z) × Went z seat.old.knows seat.new.knows }
+        ensures went { TakesTurn seat.old.knows seat.new.knows }
         ensures stayed { Stayed seat.old.knows seat.new.knows }
-        ensures tried { (z : Origin) → seat.old.knows.base ≡ Some z → IfOk result (IsTriedAt (first_version z) seat.new.knows.seen (job_of task.now) cache) }
-        ensures named { (z : Origin) → seat.old.knows.base ≡ Some z → IfOk result (NamesIfInstalled (first_version z) seat.new.knows.seen) }
+        ensures tried { (z : Origin) → seat.old.knows.base ≡ Some z →
+            IfOk result (IsTriedAt (first_version z) seat.new.knows.seen (job_of task.now) cache) }
+        ensures named { (z : Origin) → seat.old.knows.base ≡ Some z →
+            IfOk result (NamesIfInstalled (first_version z) seat.new.knows.seen) }
     {
         let mut act = Installs {
             alloc,
@@ -265,7 +285,8 @@ impl<C: Cached + Drop> Sender<C> {
     pub fn split(&self, seat: &mut Seat<C>) -> Seat<C>
         requires here { seat.old.turnstile ≡ self.now }
         requires two { 2 ≤ seat.old.knows.share }
-        ensures here { (seat.new.turnstile ≡ seat.old.turnstile) × (result.turnstile ≡ seat.old.turnstile) }
+        ensures here { (seat.new.turnstile ≡ seat.old.turnstile)
+            × (result.turnstile ≡ seat.old.turnstile) }
         ensures kept { seat.new.knows ≡ keeps_rest seat.old.knows }
         ensures given { result.knows ≡ takes_half seat.old.knows }
     {
@@ -295,7 +316,8 @@ impl<C: Cached + Drop> Sender<C> {
         requires here { seat.old.turnstile ≡ self.now }
         requires note { note.turnstile ≡ self.now }
         ensures here { seat.new.turnstile ≡ seat.old.turnstile }
-        ensures looked { seat.new.knows ≡ saw seat.new.knows.seen (joined seat.old.knows note.knows) }
+        ensures looked { seat.new.knows
+            ≡ saw seat.new.knows.seen (joined seat.old.knows note.knows) }
         ensures follows { Follows seat.new.knows.seen seat.old.knows }
         ensures follows_note { Follows seat.new.knows.seen note.knows }
         ensures places { Places (length seat.new.knows.seen) seat.new.knows }
@@ -319,7 +341,7 @@ impl<C: Cached + Drop> Sender<C> {
     {
         let Sender { turnstile } = self;
         let Live { book } = turnstile.close(seat);
-        let _ = book.count();
+        know(&book);
         book
     }
 }

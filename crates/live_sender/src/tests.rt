@@ -31,7 +31,9 @@ fn made_up(slots: [u8; 5], places: [u8; 3]) -> Tag {
 fn open(alloc: Global, capacity: u16) -> Option<(Sender<NoCache>, Seat<NoCache>)>
     ensures here { IfSome result (λ t. t.1.turnstile ≡ t.0) }
     ensures whole { IfSome result (λ t. t.1.knows.share ≡ 4294967296) }
-    ensures small { IfSome result (λ t. (z : Origin) → t.1.knows.base ≡ Some z → (z.parameters.rows ≡ 1) × (z.parameters.capacity ≡ capacity) × (z.parameters.units ≡ 0)) }
+    ensures small { IfSome result
+        (λ t. (z : Origin) → t.1.knows.base ≡ Some z → (z.parameters.rows ≡ 1)
+        × (z.parameters.capacity ≡ capacity) × (z.parameters.units ≡ 0)) }
 {
     let params = Params::of(1, capacity, 0);
     check(&params).ok()?;
@@ -74,7 +76,8 @@ fn view_row<R: Threads + Wait + Sync>(
     ensures base { seat.new.knows.base ≡ seat.old.knows.base }
     ensures share { seat.new.knows.share ≡ seat.old.knows.share }
     ensures seen { IsPrefix seat.old.knows.seen seat.new.knows.seen }
-    ensures viewed { (z : Origin) → seat.old.knows.base ≡ Some z → IfSome result (λ view. IsViewOf (first_version z) seat.new.knows.seen view) }
+    ensures viewed { (z : Origin) → seat.old.knows.base ≡ Some z →
+        IfSome result (λ view. IsViewOf (first_version z) seat.new.knows.seen view) }
 {
     match sender.fetch_row(rt, alloc, seat, 0) {
         Ok(view) => Some(view),
@@ -92,7 +95,8 @@ fn commit<R: Threads + Wait + Sync>(
 ) -> Option<(RepackAnswer, u64)>
     requires here { seat.old.turnstile ≡ sender.now }
     requires capacity { (z : Origin) → seat.old.knows.base ≡ Some z → z.parameters.capacity ≡ 1 }
-    requires of_history { (z : Origin) → seat.old.knows.base ≡ Some z → IsViewOf (first_version z) seat.old.knows.seen view.now }
+    requires of_history { (z : Origin) → seat.old.knows.base ≡ Some z →
+        IsViewOf (first_version z) seat.old.knows.seen view.now }
     ensures here { seat.new.turnstile ≡ seat.old.turnstile }
     ensures base { seat.new.knows.base ≡ seat.old.knows.base }
     ensures share { seat.new.knows.share ≡ seat.old.knows.share }
@@ -118,7 +122,8 @@ fn bare<R: Threads + Wait + Sync>(
     ensures base { seat.new.knows.base ≡ seat.old.knows.base }
     ensures share { seat.new.knows.share ≡ seat.old.knows.share }
     ensures seen { IsPrefix seat.old.knows.seen seat.new.knows.seen }
-    ensures given { (z : Origin) → seat.old.knows.base ≡ Some z → IfSome result (λ task. IsJobOf (first_version z) seat.new.knows.seen (job_of task)) }
+    ensures given { (z : Origin) → seat.old.knows.base ≡ Some z →
+        IfSome result (λ task. IsJobOf (first_version z) seat.new.knows.seen (job_of task)) }
 {
     match sender.fetch_bare(rt, alloc, seat, skip) {
         Ok(Bare::One { task }) => Some(task),
@@ -149,7 +154,8 @@ fn bring<R: Threads + Wait + Sync>(
     task: &Task,
 ) -> Option<(u16, u64, u64, Option<Now>)>
     requires here { seat.old.turnstile ≡ sender.now }
-    requires of_history { (z : Origin) → seat.old.knows.base ≡ Some z → IsJobOf (first_version z) seat.old.knows.seen (job_of task.now) }
+    requires of_history { (z : Origin) → seat.old.knows.base ≡ Some z →
+        IsJobOf (first_version z) seat.old.knows.seen (job_of task.now) }
     ensures here { seat.new.turnstile ≡ seat.old.turnstile }
     ensures base { seat.new.knows.base ≡ seat.old.knows.base }
     ensures share { seat.new.knows.share ≡ seat.old.knows.share }

@@ -1,5 +1,5 @@
 //! The parameters and their bytes.
-ghost use Rattle.std.specs.Prelude.{◌≡◌, ◌<◌, ◌^◌, [], ◌∷◌};
+ghost use Rattle.std.specs.Prelude.{◌≡◌, ◌<◌, ◌≤◌, ◌+◌, ◌*◌, ◌^◌, [], ◌∷◌};
 ghost use Rattle.std.specs.Int.{bytes_high_first};
 ghost use Rattle.psi_residue.specs.Parameters.{parameter_bytes};
 ghost use Rattle.noise_ledger.specs.Verdicts.{parameters_of};
@@ -60,6 +60,30 @@ impl Params {
             drop,
             spare: number(spare_high, spare_low),
         }
+    }
+
+    /// The planes of a bundle: the root plane, and one for each label unit.
+    pub fn planes(&self) -> usize
+        ensures number { result ≡ 1 + self.now.units }
+        ensures few { result ≤ 2 ^ 8 }
+    {
+        1 + usize::from(self.units)
+    }
+
+    /// The coefficients of a plane's polynomials: one more than the members that a bin holds at most.
+    pub fn coefficients(&self) -> usize
+        ensures number { result ≡ self.now.capacity + 1 }
+        ensures few { result ≤ 2 ^ 16 }
+    {
+        usize::from(self.capacity) + 1
+    }
+
+    /// The rows of a bundle's block: one for each coefficient of each plane.
+    pub fn block_rows(&self) -> usize
+        ensures number { result ≡ (1 + self.now.units) * (self.now.capacity + 1) }
+        ensures few { result ≤ 2 ^ 24 }
+    {
+        self.planes() * self.coefficients()
     }
 
     /// The 8 bytes: form, rows, capacity (two bytes, the higher first), units, drop, spare (two bytes, the higher first).

@@ -8,7 +8,7 @@ use Rattle.std.proofs.Math.ListN.{get_or-map}
 use Rattle.psi_bundle.specs.declared.member.Member.{Member}
 use Rattle.item_slots.specs.Tags.{bins_of_row}
 use Rattle.psi_bundle.specs.Bins.{accepts, bin_at, empty_bins}
-use Rattle.psi_bundle.specs.Versions.{Stamped, Row, first_fit, joined, fresh}
+use Rattle.psi_bundle.specs.Versions.{Stamped, Row, first_fit, joined, empty_bundle}
 
 -- where a bundle accepts the member's tag
 abbrev pub takes : ℕ → ℕ → Member → Stamped → Bool
@@ -71,16 +71,16 @@ module _ (capacity stamp b : ℕ) (m : Member) where
       changed_here (takes capacity b m) (joined stamp b m) u us (first_fit capacity stamp b m us) n d (takes capacity b m u) i e (λ j h. first_fit-at us j (n + 1) d h)
 
   -- a row in which none accepts has a new last bundle
-  pub first_fit-none : (row : Row) (n : ℕ) → position_from (takes capacity b m) n row ≡ None → first_fit capacity stamp b m row ≡ row ++ joined stamp b m (fresh stamp) ∷ []
+  pub first_fit-none : (row : Row) (n : ℕ) → position_from (takes capacity b m) n row ≡ None → first_fit capacity stamp b m row ≡ row ++ joined stamp b m (empty_bundle stamp) ∷ []
   unfolding first_fit
   first_fit-none [] n e = refl
   first_fit-none (u ∷ us) n e =
-      unchanged_here (takes capacity b m) (joined stamp b m) u us (first_fit capacity stamp b m us) n u (takes capacity b m u) (joined stamp b m (fresh stamp)) e (λ h. first_fit-none us (n + 1) h)
+      unchanged_here (takes capacity b m) (joined stamp b m) u us (first_fit capacity stamp b m us) n u (takes capacity b m u) (joined stamp b m (empty_bundle stamp)) e (λ h. first_fit-none us (n + 1) h)
 
 -- a new bundle accepts any tag
-pub fresh-accepts : (capacity b : ℕ) (tag : List ℕ) → 1 ≤ capacity → b < bins_of_row → accepts capacity (bin_at empty_bins b) tag ≡ true
+pub empty-accepts : (capacity b : ℕ) (tag : List ℕ) → 1 ≤ capacity → b < bins_of_row → accepts capacity (bin_at empty_bins b) tag ≡ true
 unfolding accepts empty_bins
-fresh-accepts capacity b tag some h =
+empty-accepts capacity b tag some h =
     let free : nat_lt 0 capacity ≡ true = lt-ltb 0 capacity some in
     ap (λ (bin : List Member). accepts capacity bin tag) (get_or-replicate 819 b [] [] h) ∙ rw free refl
 
@@ -98,7 +98,7 @@ module _ {X : Type 0} (f : X → Stamped) (capacity stamp b : ℕ) (m : Member) 
       ∙ sym found.1
 
   -- where none accepts, there is a new last bundle
-  pub place-none : (xs : List X) (new : X) → position_from (λ y. accepts capacity (bin_at (f y).bins b) m.tag) 0 xs ≡ None → f new ≡ joined stamp b m (fresh stamp)
+  pub place-none : (xs : List X) (new : X) → position_from (λ y. accepts capacity (bin_at (f y).bins b) m.tag) 0 xs ≡ None → f new ≡ joined stamp b m (empty_bundle stamp)
       → map f (xs ++ new ∷ []) ≡ first_fit capacity stamp b m (map f xs)
   place-none xs new e is =
       map-append f xs (new ∷ [])

@@ -3,3 +3,4 @@ pub mod RootChanges
 pub mod BinChanges
 pub mod Planes
 pub mod Steps
+pub mod EmptyBundle

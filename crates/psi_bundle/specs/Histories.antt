@@ -1,5 +1,5 @@
 -- Histories: entries in their order, whether each answer is the step's, and the version that they lead to.
-use Rattle.std.specs.Prelude.{◌≡◌, ℕ, ◌<◌, List, [], ◌∷◌, take, slice_index, Some, ⊤}
+use Rattle.std.specs.Prelude.{◌≡◌, ℕ, ◌<◌, ◌^◌, List, [], ◌∷◌, take, slice_index, Some, ⊤}
 use Rattle.std.specs.FinMap as fin
 use Rattle.std.specs.List.{fold}
 use Rattle.psi_residue.specs.Parameters.{Parameters}
@@ -16,6 +16,10 @@ after v e = (step v e.call).version
 -- the version after all the entries
 abbrev pub replay : Version → List Entry → Version
 replay v es = fold after v es
+
+-- the most entries of a history
+abbrev pub most_entries : ℕ
+most_entries = 2 ^ 20
 
 -- each answer is the step's in turn
 abbrev pub IsLegal : Version → List Entry → Type 0

@@ -4,6 +4,7 @@ use Rattle.std.specs.List.{All}
 use Rattle.psi_residue.specs.Numbers.{plain_modulus}
 use Rattle.bin_poly.specs.Roots.{HasRoots, without}
 use Rattle.psi_bundle.specs.declared.member.Member.{Member}
+use Rattle.item_slots.specs.Tags.{parts_of_tag}
 use Rattle.psi_bundle.specs.Bins.{AreApart, roots_of}
 
 -- coefficients modulo the plaintext modulus, at least one
@@ -30,7 +31,7 @@ pub record IsRootPolynomial (roots polynomial : List ℕ) : Type 0 where
 
 -- for each of the five parts
 abbrev pub EachPart : (ℕ → Type 0) → Type 0
-EachPart P = (j : ℕ) → j < 5 → P j
+EachPart P = (j : ℕ) → j < parts_of_tag → P j
 
 -- the polynomial of one part
 abbrev pub polynomial_at : List (List ℕ) → ℕ → List ℕ

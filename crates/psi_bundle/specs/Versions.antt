@@ -7,6 +7,7 @@ use Rattle.std.specs.FinMap as fin
 use Rattle.psi_residue.specs.Parameters.{Parameters}
 use Rattle.psi_bundle.specs.declared.member.Member.{Member}
 use Rattle.item_slots.specs.Tags.{bins_of_row, positions_of}
+use Rattle.psi_bundle.specs.Planes.{planes_of_bundle, coefficients_of_plane}
 use Rattle.psi_bundle.specs.Bins.{AreApart, accepts, holds, bin_at, empty_bins, same_tag}
 
 -- labels by tag
@@ -46,8 +47,8 @@ abbrev pub with_bin : ℕ → ℕ → List Member → Stamped → Stamped
 with_bin stamp b bin u = record { stamp = stamp; bins = slice_set u.bins b bin }
 
 -- a new bundle that holds nothing yet
-abbrev pub fresh : ℕ → Stamped
-fresh stamp = record { stamp = stamp; bins = empty_bins }
+abbrev pub empty_bundle : ℕ → Stamped
+empty_bundle stamp = record { stamp = stamp; bins = empty_bins }
 
 -- the bundle takes the member at the end of bin b
 abbrev pub joined : ℕ → ℕ → Member → Stamped → Stamped
@@ -55,7 +56,7 @@ joined stamp b m u = with_bin stamp b (bin_at u.bins b ++ m ∷ []) u
 
 -- First fit in a row: the first bundle that accepts the member's tag in bin b takes it, else a new last bundle does.
 unfoldable pub first_fit : ℕ → ℕ → ℕ → Member → Row → Row
-first_fit capacity stamp b m [] = joined stamp b m (fresh stamp) ∷ []
+first_fit capacity stamp b m [] = joined stamp b m (empty_bundle stamp) ∷ []
 first_fit capacity stamp b m (u ∷ us) = if accepts capacity (bin_at u.bins b) m.tag then joined stamp b m u ∷ us else u ∷ first_fit capacity stamp b m us
 
 -- the member at one position, by first fit in the position's row
@@ -90,11 +91,11 @@ greatest_stamp row = fold max 0 (map (λ u. u.stamp) row)
 
 -- planes of some number of bundles: the root plane and one for each label unit
 abbrev pub planes_of : Parameters → List Row → ℕ
-planes_of p rows = sum (map (λ row. length row) rows) * (1 + p.units)
+planes_of p rows = sum (map (λ row. length row) rows) * planes_of_bundle p
 
 -- cells: one for each coefficient of each plane
 abbrev pub cells_of : Parameters → List Row → ℕ
-cells_of p rows = planes_of p rows * (p.capacity + 1)
+cells_of p rows = planes_of p rows * coefficients_of_plane p
 
 -- the set's limits
 abbrev pub IsWithinLimits : Parameters → List Row → Type 0

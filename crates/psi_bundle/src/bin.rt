@@ -35,7 +35,7 @@ impl Model for Bin {
 
 impl Bin {
     // The bin without members.
-    pub fn empty(alloc: Global) -> Result<Bin, AllocError>
+    pub(crate) fn empty(alloc: Global) -> Result<Bin, AllocError>
         ensures { IfOk result (λ bin. bin ≡ []) }
     {
         let polynomials = ones(alloc)?;
@@ -46,14 +46,14 @@ impl Bin {
     }
 
     // Its members.
-    pub fn members(&self) -> &[Member]
+    pub(crate) fn members(&self) -> &[Member]
         ensures { result.now ≡ self.now }
     {
         &self.members
     }
 
     // The polynomial of one part.
-    pub fn polynomial(&self, part: u8) -> &[u32]
+    pub(crate) fn polynomial(&self, part: u8) -> &[u32]
         requires { part < 5 }
         ensures { IsRootPolynomial (roots_of self.now part) result.now }
     {
@@ -61,7 +61,7 @@ impl Bin {
     }
 
     // The bin with one more member at its end, which shares no slot value with the others.
-    pub fn add(&self, alloc: Global, member: Member) -> Result<Bin, AllocError>
+    pub(crate) fn add(&self, alloc: Global, member: Member) -> Result<Bin, AllocError>
         requires { IsFalse (list_any (λ m. shares_slot m.tag member.tag) self.now) }
         ensures { IfOk result (λ bin. bin ≡ self.now ++ member ∷ []) }
     {
@@ -74,7 +74,7 @@ impl Bin {
     }
 
     // The bin with another label for the tag.
-    pub fn relabel(&self, alloc: Global, tag: &Tag, label: Label) -> Result<Bin, AllocError>
+    pub(crate) fn relabel(&self, alloc: Global, tag: &Tag, label: Label) -> Result<Bin, AllocError>
         ensures { IfOk result (λ bin. bin ≡ relabelled self.now tag.now label) }
     {
         let members = with_label(alloc, &self.members, tag, label)?;
@@ -86,7 +86,7 @@ impl Bin {
     }
 
     // The bin without the tag's member. It holds the tag.
-    pub fn remove(&self, alloc: Global, tag: &Tag) -> Result<Bin, AllocError>
+    pub(crate) fn remove(&self, alloc: Global, tag: &Tag) -> Result<Bin, AllocError>
         requires { IsTrue (holds self.now tag.now) }
         ensures { IfOk result (λ bin. bin ≡ without self.now tag.now) }
     {

@@ -5,7 +5,7 @@ ghost use Rattle.std.specs.Prelude.{◌≡◌, ◌<◌, ◌≤◌, IsTrue, List,
 ghost use Rattle.std.specs.List.{list_any};
 ghost use Rattle.psi_residue.specs.RootPolynomials.{root_coefficient};
 ghost use Rattle.psi_bundle.specs.Bins.{accepts, holds, shares_slot, bin_at, empty_bins, relabelled, roots_of, without};
-ghost use Rattle.item_slots.specs.Tags.{slot_value};
+ghost use Rattle.item_slots.specs.Tags.{bins_of_row, parts_of_tag, slot_value};
 
 use crate::bin::Bin;
 use crate::label::Label;
@@ -35,6 +35,10 @@ impl Model for Bundle {
 
 impl Bundle {
     /// The bundle without members.
+    ///
+    /// # Errors
+    ///
+    /// If memory runs out.
     #[tactic(auto, unfolding(crate::specs::Bins::empty_bins))]
     pub fn empty(alloc: Global) -> Result<Bundle, AllocError>
         ensures { IfOk result (λ bundle. bundle ≡ empty_bins) }
@@ -44,40 +48,57 @@ impl Bundle {
         Ok(Bundle { bins })
     }
 
+    /// The bundle with one member, in this bin, which is below 819.
+    ///
+    /// # Errors
+    ///
+    /// If memory runs out.
+    pub fn of_one(alloc: Global, bin: u16, member: Member) -> Result<Bundle, AllocError>
+        requires { bin < bins_of_row }
+        ensures { IfOk result (λ bundle. bundle ≡ slice_set empty_bins bin (bin_at empty_bins bin ++ member ∷ [])) }
+    {
+        let empty = Bundle::empty(alloc)?;
+        empty.add(alloc, bin, member, 1)
+    }
+
     /// The number of its bins, which is 819.
     pub fn bins(&self) -> u16
         ensures number { result ≡ length self.now }
-        ensures all { result ≡ 819 }
+        ensures all { result ≡ bins_of_row }
     {
         self.bins.len() as u16
     }
 
-    /// The members of a bin, in their order.
+    /// The members of a bin, in their order. `bin` is below 819.
     pub fn members(&self, bin: u16) -> &[Member]
-        requires { bin < 819 }
+        requires { bin < bins_of_row }
         ensures { result.now ≡ bin_at self.now bin }
     {
         self.bin(bin).members()
     }
 
     /// Whether the bin accepts the tag: it has fewer members than the capacity, and none of them shares a
-    /// slot value with the tag in the same part.
+    /// slot value with the tag in the same part. `bin` is below 819.
     pub fn accepts(&self, bin: u16, tag: &Tag, capacity: u16) -> bool
-        requires { bin < 819 }
+        requires { bin < bins_of_row }
         ensures { result ≡ accepts capacity (bin_at self.now bin) tag.now }
     {
         accepts_in(self.members(bin), tag, capacity)
     }
 
-    /// Whether the tag stands in the bin.
+    /// Whether the tag stands in the bin. `bin` is below 819.
     pub fn holds(&self, bin: u16, tag: &Tag) -> bool
-        requires { bin < 819 }
+        requires { bin < bins_of_row }
         ensures { result ≡ holds (bin_at self.now bin) tag.now }
     {
         holds_in(self.members(bin), tag)
     }
 
-    /// The bundle with the member at the end of the bin, which accepts its tag.
+    /// The bundle with the member at the end of the bin, which accepts its tag. `bin` is below 819.
+    ///
+    /// # Errors
+    ///
+    /// If memory runs out.
     pub fn add(
         &self,
         alloc: Global,
@@ -85,14 +106,18 @@ impl Bundle {
         member: Member,
         capacity: u16,
     ) -> Result<Bundle, AllocError>
-        requires in_range { bin < 819 }
+        requires in_range { bin < bins_of_row }
         requires accepted { IsTrue (accepts capacity (bin_at self.now bin) member.tag) }
         ensures { IfOk result (λ bundle. bundle ≡ slice_set self.now bin (bin_at self.now bin ++ member ∷ [])) }
     {
         self.with_bin(alloc, bin, self.bin(bin).add(alloc, member)?)
     }
 
-    /// The bundle with another label for the tag, which the bin holds.
+    /// The bundle with another label for the tag, which the bin holds. `bin` is below 819.
+    ///
+    /// # Errors
+    ///
+    /// If memory runs out.
     pub fn relabel(
         &self,
         alloc: Global,
@@ -100,16 +125,21 @@ impl Bundle {
         tag: &Tag,
         label: Label,
     ) -> Result<Bundle, AllocError>
-        requires in_range { bin < 819 }
+        requires in_range { bin < bins_of_row }
         requires held { IsTrue (holds (bin_at self.now bin) tag.now) }
         ensures { IfOk result (λ bundle. bundle ≡ slice_set self.now bin (relabelled (bin_at self.now bin) tag.now label)) }
     {
         self.with_bin(alloc, bin, self.bin(bin).relabel(alloc, tag, label)?)
     }
 
-    /// The bundle without the tag's member in the bin, which holds it. The other members keep their order.
+    /// The bundle without the tag's member in the bin, which holds it. The other members keep their order. `bin` is
+    /// below 819.
+    ///
+    /// # Errors
+    ///
+    /// If memory runs out.
     pub fn remove(&self, alloc: Global, bin: u16, tag: &Tag) -> Result<Bundle, AllocError>
-        requires in_range { bin < 819 }
+        requires in_range { bin < bins_of_row }
         requires held { IsTrue (holds (bin_at self.now bin) tag.now) }
         ensures { IfOk result (λ bundle. bundle ≡ slice_set self.now bin (without (bin_at self.now bin) tag.now)) }
     {
@@ -117,10 +147,10 @@ impl Bundle {
     }
 
     /// Writes the slot values of one part of the bin's members to the front of `out`, in their order, and
-    /// gives their number. `out` has room for them.
+    /// gives their number. `bin` is below 819, `part` below 5, and `out` has room for as many as the bin has members.
     pub fn roots(&self, bin: u16, part: u8, out: &mut [u16]) -> usize
-        requires in_range { bin < 819 }
-        requires a_part { part < 5 }
+        requires in_range { bin < bins_of_row }
+        requires a_part { part < parts_of_tag }
         requires room { length (bin_at self.now bin) ≤ length out.old }
         ensures number { result ≡ length (bin_at self.now bin) }
         ensures values { take result out.new ≡ roots_of (bin_at self.now bin) part }
@@ -136,8 +166,8 @@ impl Bundle {
     /// Each bin keeps its polynomials: after any list of `add`, `remove` and `relabel` they are those of the members that
     /// then stand, which is a fact of the type.
     pub fn poly(&self, bin: u16, part: u8) -> &[u32]
-        requires in_range { bin < 819 }
-        requires a_part { part < 5 }
+        requires in_range { bin < bins_of_row }
+        requires a_part { part < parts_of_tag }
         ensures number { length result.now ≡ length (bin_at self.now bin) + 1 }
         ensures coefficients { (k : ℕ) → slice_index result.now k ≡ root_coefficient (roots_of (bin_at self.now bin) part) k }
     {
@@ -146,7 +176,7 @@ impl Bundle {
 
     // One bin.
     fn bin(&self, bin: u16) -> &Bin
-        requires { bin < 819 }
+        requires { bin < bins_of_row }
         ensures { result.now ≡ bin_at self.now bin }
     {
         self.bins.get(bin as usize)
@@ -154,7 +184,7 @@ impl Bundle {
 
     // The bundle with another content of one bin.
     fn with_bin(&self, alloc: Global, bin: u16, content: Bin) -> Result<Bundle, AllocError>
-        requires { bin < 819 }
+        requires { bin < bins_of_row }
         ensures { IfOk result (λ bundle. bundle ≡ slice_set self.now bin content) }
     {
         let changed = Arc::new(alloc, content)?;
@@ -195,7 +225,7 @@ fn holds_in(members: &[Member], tag: &Tag) -> bool
 
 // The slot value of one part of a tag.
 fn slot(tag: &Tag, part: u8) -> u16
-    requires { part < 5 }
+    requires { part < parts_of_tag }
     ensures { result ≡ slot_value tag.now part }
 {
     slots(tag)[part as usize]
@@ -203,7 +233,7 @@ fn slot(tag: &Tag, part: u8) -> u16
 
 // Writes the slot values of one part to the front of `out`.
 fn write_roots(members: &[Member], part: u8, out: &mut [u16]) -> usize
-    requires a_part { part < 5 }
+    requires a_part { part < parts_of_tag }
     requires room { length members.now ≤ length out.old }
     ensures number { result ≡ length members.now }
     ensures values { take result out.new ≡ roots_of members.now part }

@@ -1,8 +1,12 @@
 //! What may be kept beside a bundle, and bundles as they are shown.
-ghost use Rattle.std.specs.Prelude.{◌≡◌};
+ghost use Rattle.std.specs.Prelude.{◌≡◌, ◌<◌, IfSome, length};
+ghost use Rattle.std.specs.List.{position_from};
 ghost use Rattle.std.specs.Arc.{arc_value};
+ghost use Rattle.item_slots.specs.Tags.{bins_of_row};
+ghost use Rattle.psi_bundle.specs.Bins.{accepts, bin_at};
 
 use crate::bundle::Bundle;
+use item_slots::Tag;
 use std::marker::Model;
 use std::sync::Arc;
 
@@ -58,6 +62,27 @@ impl NoCache {
     }
 }
 
+/// What has a bundle: a bundle itself, or one that a set shows.
+pub trait HasBundle {
+    ghost use Rattle.std.specs.Prelude.{◌≡◌, List};
+    ghost use Rattle.psi_bundle.specs.declared.member.Member.{Member};
+
+    /// The members of each bin.
+    ghost bins: { Self → List (List Member) };
+
+    /// The bundle.
+    fn bundle(&self) -> &Bundle
+        ensures { result.now ≡ bins self.now };
+}
+
+impl HasBundle for Bundle {
+    ghost bins = { λ b. b };
+
+    fn bundle(&self) -> &Bundle {
+        self
+    }
+}
+
 /// A bundle as a set shows it: with its stamp, and with a cache where there is one.
 #[derive(Drop)]
 pub struct Shown<C> {
@@ -67,4 +92,28 @@ pub struct Shown<C> {
     pub stamp: u64,
     /// A cache for it, if there is one.
     pub cache: Option<Arc<C>>,
+}
+
+impl<C> HasBundle for Shown<C> {
+    ghost use Rattle.std.specs.Arc.{arc_value};
+
+    ghost bins = { λ u. arc_value u.bundle };
+
+    fn bundle(&self) -> &Bundle {
+        &self.bundle
+    }
+}
+
+/// The number of the first bundle of a row that accepts the tag in the bin, as `Bundle::accepts` tells it. `bin` is
+/// below 819.
+pub fn accepting<T: HasBundle>(row: &[T], bin: u16, tag: &Tag, capacity: u16) -> Option<usize>
+    requires { bin < bins_of_row }
+    ensures first { result ≡ position_from (λ u. accepts capacity (bin_at (T.bins u) bin) tag.now) 0 row.now }
+    ensures within { IfSome result (λ i. i < length row.now) }
+{
+    row.iter().position(
+        |u|
+            requires { bin < bins_of_row }
+        { u.bundle().accepts(bin, tag, capacity) },
+    )
 }

@@ -43,7 +43,7 @@ impl Label {
         })
     }
 
-    /// Its bytes.
+    /// Its bytes, at most 40.
     pub fn bytes(&self) -> &[u8]
         ensures { result.now ≡ self.now }
     {

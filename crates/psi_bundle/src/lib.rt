@@ -16,7 +16,7 @@ mod root_polynomial;
 mod tests;
 
 pub use crate::bundle::Bundle;
-pub use crate::cached::{Cached, NoCache, Shown};
+pub use crate::cached::{Cached, HasBundle, NoCache, Shown, accepting};
 pub use crate::history::{Answer, Call, Entry};
 pub use crate::label::Label;
 pub use crate::member::Member;

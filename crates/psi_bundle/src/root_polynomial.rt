@@ -27,7 +27,7 @@ impl Model for RootPolynomial {
 
 impl RootPolynomial {
     // The polynomial without roots, which is 1.
-    pub fn one(alloc: Global) -> Result<RootPolynomial, AllocError>
+    pub(crate) fn one(alloc: Global) -> Result<RootPolynomial, AllocError>
         ensures { IfOk result (λ one. one ≡ 1 ∷ []) }
     {
         let coefficients = Vec::from_slice(alloc, &[1])?;
@@ -35,14 +35,14 @@ impl RootPolynomial {
     }
 
     // Its coefficients.
-    pub fn coefficients(&self) -> &[u32]
+    pub(crate) fn coefficients(&self) -> &[u32]
         ensures { result.now ≡ self.now }
     {
         &self.coefficients
     }
 
     // The same polynomial.
-    pub fn copied(&self, alloc: Global) -> Result<RootPolynomial, AllocError>
+    pub(crate) fn copied(&self, alloc: Global) -> Result<RootPolynomial, AllocError>
         ensures { IfOk result (λ copy. copy ≡ self.now) }
     {
         let coefficients = Vec::from_slice(alloc, &self.coefficients)?;
@@ -50,7 +50,7 @@ impl RootPolynomial {
     }
 
     // The polynomial times (x - root).
-    pub fn times(&self, alloc: Global, root: u16) -> Result<RootPolynomial, AllocError>
+    pub(crate) fn times(&self, alloc: Global, root: u16) -> Result<RootPolynomial, AllocError>
         ensures { IfOk result (λ new. GainsRoot root self.now new) }
     {
         let degree = self.coefficients.len() - 1;
@@ -62,7 +62,7 @@ impl RootPolynomial {
     }
 
     // The polynomial divided by (x - root). It has the root.
-    pub fn divided(&self, alloc: Global, root: u16) -> Result<RootPolynomial, AllocError>
+    pub(crate) fn divided(&self, alloc: Global, root: u16) -> Result<RootPolynomial, AllocError>
         requires not_constant { 1 < length self.now }
         requires is_root { value_at plain_modulus self.now root ≡ 0 }
         ensures { IfOk result (λ new. LosesRoot root self.now new) }

@@ -9,7 +9,7 @@ use Rattle.psi_bundle.specs.Bins.{accepts, bin_at, empty_bins}
 use Rattle.psi_bundle.specs.Versions.{Row, Stamped, first_fit, packed_row, members_of_row}
 use Rattle.psi_bundle.specs.Shows.{packed_bins}
 use Rattle.psi_bundle.proofs.FirstFit.{position_passes, place-at, place-none}
-use Rattle.psi_packer.specs.Packing.{bare_row, fitted, bin_members, bundle_members}
+use Rattle.psi_packer.specs.Packing.{unstamped_row, fitted, bin_members, bundle_members}
 
 -- a bundle with the stamp 0
 abbrev bare_of : List (List Member) → Stamped
@@ -24,12 +24,12 @@ module _ (capacity b : ℕ) (m : Member) (items : List (List (List Member))) whe
       ap test here ∙ position_passes test items 0 i r (e ∙ ap Some (omega arith))
 
   pub fits-at : (i : ℕ) (r new : List (List Member)) → position_from (λ u. accepts capacity (bin_at u b) m.tag) 0 items ≡ Some i → r ≡ slice_index_or items i r
-      → new ≡ slice_set r b (bin_at r b ++ m ∷ []) → bare_row (slice_set items i new) ≡ first_fit capacity 0 b m (bare_row items)
+      → new ≡ slice_set r b (bin_at r b ++ m ∷ []) → unstamped_row (slice_set items i new) ≡ first_fit capacity 0 b m (unstamped_row items)
   fits-at i r new e here is = place-at bare_of capacity 0 b m items i r new e here (ap bare_of is)
 
   pub fits-none : (new : List (List Member)) (after : List (List (List Member))) → position_from (λ u. accepts capacity (bin_at u b) m.tag) 0 items ≡ None
-      → new ≡ slice_set empty_bins b (bin_at empty_bins b ++ m ∷ []) → after ≡ items ++ new ∷ [] → bare_row after ≡ first_fit capacity 0 b m (bare_row items)
-  fits-none new after e is made = ap bare_row made ∙ place-none bare_of capacity 0 b m items new e (ap bare_of is)
+      → new ≡ slice_set empty_bins b (bin_at empty_bins b ++ m ∷ []) → after ≡ items ++ new ∷ [] → unstamped_row after ≡ first_fit capacity 0 b m (unstamped_row items)
+  fits-none new after e is made = ap unstamped_row made ∙ place-none bare_of capacity 0 b m items new e (ap bare_of is)
 
 -- one more bin of a bundle
 bundle-step : (b : ℕ) (bins : List (List Member)) → b < length bins → bundle_members b (drop b bins) ≡ bin_members b (bin_at bins b) ++ bundle_members (b + 1) (drop (b + 1) bins)
@@ -54,9 +54,9 @@ row-more capacity u rest done after all is so_far =
     ∙ so_far
 
 -- bundles without their stamps again
-bins-bare : (bundles : List (List (List Member))) → map {A = Stamped} (λ u. u.bins) (bare_row bundles) ≡ bundles
+bins-bare : (bundles : List (List (List Member))) → map {A = Stamped} (λ u. u.bins) (unstamped_row bundles) ≡ bundles
 bins-bare [] = refl
 bins-bare (b ∷ bs) = ap (λ (rest : List (List (List Member))). b ∷ rest) (bins-bare bs)
 
-pub packed-are : (capacity : ℕ) (bundles : List (List (List Member))) (row : Row) → bare_row bundles ≡ packed_row capacity 0 (members_of_row row) → bundles ≡ packed_bins capacity row
+pub packed-are : (capacity : ℕ) (bundles : List (List (List Member))) (row : Row) → unstamped_row bundles ≡ packed_row capacity 0 (members_of_row row) → bundles ≡ packed_bins capacity row
 packed-are capacity bundles row is = sym (bins-bare bundles) ∙ ap (λ (w : Row). map {A = Stamped} (λ u. u.bins) w) is

@@ -5,8 +5,8 @@ use Rattle.psi_bundle.specs.declared.member.Member.{Member}
 use Rattle.psi_bundle.specs.Versions.{Row, first_fit}
 
 -- bundles as a row, all with the stamp 0
-abbrev pub bare_row : List (List (List Member)) → Row
-bare_row bundles = map (λ bins. record { stamp = 0; bins = bins }) bundles
+abbrev pub unstamped_row : List (List (List Member)) → Row
+unstamped_row bundles = map (λ bins. record { stamp = 0; bins = bins }) bundles
 
 -- first fit of one more member, in its own bin
 abbrev pub fitted : ℕ → Row → ℕ × Member → Row

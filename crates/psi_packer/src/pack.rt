@@ -4,34 +4,10 @@ ghost use Rattle.std.specs.List.{fold, position_from};
 ghost use Rattle.psi_bundle.specs.Bins.{accepts, bin_at, empty_bins};
 ghost use Rattle.psi_bundle.specs.Versions.{first_fit};
 ghost use Rattle.psi_bundle.specs.Shows.{packed_bins, shown_row};
-ghost use Rattle.psi_packer.specs.Packing.{bare_row, fitted, bin_members, bundle_members};
+ghost use Rattle.psi_packer.specs.Packing.{unstamped_row, fitted, bin_members, bundle_members};
 
-use item_slots::Tag;
-use psi_bundle::{Bundle, Cached, Member, Shown};
+use psi_bundle::{Bundle, Cached, Member, Shown, accepting};
 use std::alloc::{AllocError, Global};
-
-// The first of the bundles that accepts the tag in the bin.
-fn accepting(bundles: &[Bundle], bin: u16, tag: &Tag, capacity: u16) -> Option<usize>
-    requires { bin < 819 }
-    ensures first { result ≡ position_from (λ u. accepts capacity (bin_at u bin) tag.now) 0 bundles.now }
-    ensures within { IfSome result (λ i. i < length bundles.now) }
-{
-    bundles.iter().position(
-        |u|
-            requires { bin < 819 }
-        { u.accepts(bin, tag, capacity) },
-    )
-}
-
-// A new bundle with one member.
-fn with_first(alloc: Global, bin: u16, member: Member, capacity: u16) -> Result<Bundle, AllocError>
-    requires in_range { bin < 819 }
-    requires some { 1 ≤ capacity }
-    ensures { IfOk result (λ bundle. bundle ≡ slice_set empty_bins bin (bin_at empty_bins bin ++ member ∷ [])) }
-{
-    let empty = Bundle::empty(alloc)?;
-    empty.add(alloc, bin, member, capacity)
-}
 
 // Puts a member into the bundles by first fit.
 fn fit(
@@ -43,7 +19,8 @@ fn fit(
 ) -> Result<(), AllocError>
     requires in_range { bin < 819 }
     requires some { 1 ≤ capacity }
-    ensures { OnOk result (bare_row packed.new.items ≡ first_fit capacity 0 bin member.now (bare_row packed.old.items)) }
+    ensures { OnOk result (unstamped_row packed.new.items
+        ≡ first_fit capacity 0 bin member.now (unstamped_row packed.old.items)) }
 {
     let Member { tag, label } = *member;
     match accepting(packed, bin, &tag, capacity) {
@@ -52,7 +29,7 @@ fn fit(
             packed[i] = bundle;
         }
         None => {
-            let bundle = with_first(alloc, bin, Member { tag, label }, capacity)?;
+            let bundle = Bundle::of_one(alloc, bin, Member { tag, label })?;
             packed.push(bundle)?;
         }
     }
@@ -69,7 +46,8 @@ fn fit_bin(
 ) -> Result<(), AllocError>
     requires in_range { bin < 819 }
     requires some { 1 ≤ capacity }
-    ensures { OnOk result (bare_row packed.new.items ≡ fold (fitted capacity) (bare_row packed.old.items) (bin_members bin members.now)) }
+    ensures { OnOk result (unstamped_row packed.new.items
+        ≡ fold (fitted capacity) (unstamped_row packed.old.items) (bin_members bin members.now)) }
 {
     for member in members {
         fit(alloc, packed, bin, member, capacity)?;
@@ -85,7 +63,8 @@ fn fit_bundle(
     capacity: u16,
 ) -> Result<(), AllocError>
     requires { 1 ≤ capacity }
-    ensures { OnOk result (bare_row packed.new.items ≡ fold (fitted capacity) (bare_row packed.old.items) (bundle_members 0 bundle.now)) }
+    ensures { OnOk result (unstamped_row packed.new.items
+        ≡ fold (fitted capacity) (unstamped_row packed.old.items) (bundle_members 0 bundle.now)) }
 {
     for bin in 0..bundle.bins() {
         fit_bin(alloc, packed, bin, bundle.members(bin), capacity)?;

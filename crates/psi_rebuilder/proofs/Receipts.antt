@@ -5,6 +5,8 @@ use Rattle.std.proofs.lemmas.List.{append-nil, map-append}
 use Rattle.std.proofs.lemmas.Option.{none-some}
 use Rattle.std.proofs.lemmas.List.Elements.{All-push, All-weaker, All-nil}
 use Rattle.std.proofs.lemmas.List.Quantifiers.{all_pairs_push}
+use Rattle.psi_turnstile.specs.Counting.{IsPrefix}
+use Rattle.psi_bundle.specs.declared.history.Entry.{Entry}
 use Rattle.sender_core.specs.declared.receipt.Now.{Now}
 use Rattle.sender_core.specs.declared.install.Install.{Install}
 use Rattle.sender_core.specs.declared.install.Install.TheVariants.{Installed, Stale}
@@ -16,9 +18,10 @@ use Rattle.live_sender.specs.Histories.{first_version}
 use Rattle.live_sender.specs.Turns.{Known}
 use Rattle.live_sender.specs.Tries.{IsTriedAt, NamesIfInstalled, receipt_at}
 use Rattle.live_sender.proofs.Going.{named-goes}
-use Rattle.psi_rebuilder.specs.Building.{HasTurned, NamesUnlessStale, RiseWithin}
+use Rattle.live_sender.proofs.Prefixes.{prefix-length, prefix-then}
+use Rattle.psi_rebuilder.specs.Building.{HasTurned, IsFetched, IsOfJob, NamesUnlessStale, RiseWithin}
 use Rattle.psi_rebuilder.specs.Outcomes.{IsReceipt}
-use Rattle.psi_rebuilder.proofs.Seats.{prefix-length, turned-base, turned-follows, turned-then}
+use Rattle.psi_rebuilder.proofs.Seats.{turned-base, turned-follows, turned-then}
 
 -- ---- moments
 
@@ -41,20 +44,31 @@ rise-further low high more ms le h = record {
 -- ---- what is done so far
 
 -- a builder has gone from v to w, with these receipts
-pub record HasBuilt (v w : Known) (receipts : List Tried) : Type 0 where
+pub record HasBuilt (skip : ℕ) (v w : Known) (receipts : List Tried) : Type 0 where
   pub turned : HasTurned v w
   pub own : w.own ≡ v.own
   pub moments : RiseWithin (length v.seen) (length w.seen) (map (λ r. r.at) receipts)
   pub named : (z : Origin) → v.base ≡ Some z → All (NamesUnlessStale z w.seen) receipts
+  pub fetched : (z : Origin) → v.base ≡ Some z → All (IsFetched z skip w.seen) receipts
 
-pub built-none : (v : Known) (receipts : List Tried) → receipts ≡ [] → HasBuilt v v receipts
-built-none v receipts none =
-    subst (λ (rs : List Tried). HasBuilt v v rs) (sym none)
-    (record { turned = inl refl; own = refl; moments = rise-none (length v.seen) (length v.seen); named = λ z e. All-nil (NamesUnlessStale z v.seen) })
+pub built-none : (skip : ℕ) (v : Known) (receipts : List Tried) → receipts ≡ [] → HasBuilt skip v v receipts
+built-none skip v receipts none =
+    subst (λ (rs : List Tried). HasBuilt skip v v rs) (sym none)
+    (record {
+      turned = inl refl;
+      own = refl;
+      moments = rise-none (length v.seen) (length v.seen);
+      named = λ z e. All-nil (NamesUnlessStale z v.seen);
+      fetched = λ z e. All-nil (IsFetched z skip v.seen);
+    })
+
+-- a bundle that was fetched, as the history goes on
+fetched-goes : (z : Origin) (skip : ℕ) (es fs : List Entry) → IsPrefix es fs → (r : Tried) → IsFetched z skip es r → IsFetched z skip fs r
+fetched-goes z skip es fs longer r h = record { seen = h.seen; begins = prefix-then h.seen es fs h.begins longer; before = h.before; task = h.task; bare = h.bare; told = h.told }
 
 -- turns that bring no receipt
-pub built-then : (v u w : Known) (receipts : List Tried) → HasBuilt v u receipts → HasTurned u w → w.own ≡ u.own → HasBuilt v w receipts
-built-then v u w receipts h turned own =
+pub built-then : (skip : ℕ) (v u w : Known) (receipts : List Tried) → HasBuilt skip v u receipts → HasTurned u w → w.own ≡ u.own → HasBuilt skip v w receipts
+built-then skip v u w receipts h turned own =
     let longer = turned-follows u w turned in
     record {
       turned = turned-then v u w h.turned turned;
@@ -62,12 +76,14 @@ built-then v u w receipts h turned own =
       moments = rise-further (length v.seen) (length u.seen) (length w.seen) (map (λ r. r.at) receipts) (prefix-length u.seen w.seen longer) h.moments;
       named = λ z e.
           All-weaker (NamesUnlessStale z u.seen) (NamesUnlessStale z w.seen) (λ r names none. named-goes (first_version z) u.seen w.seen longer r (names none)) receipts (h.named z e);
+      fetched = λ z e. All-weaker (IsFetched z skip u.seen) (IsFetched z skip w.seen) (fetched-goes z skip u.seen w.seen longer) receipts (h.fetched z e);
     }
 
 -- one receipt more
-pub built-more : (v u w : Known) (receipts : List Tried) (r : Tried) → HasBuilt v u receipts → HasTurned u w → w.own ≡ u.own → IsReceipt u w r → HasBuilt v w (receipts ++ r ∷ [])
-built-more v u w receipts r before turned own is =
-    let h = built-then v u w receipts before turned own in
+pub built-more : (skip : ℕ) (v u w : Known) (receipts : List Tried) (r : Tried) → HasBuilt skip v u receipts → HasTurned u w → w.own ≡ u.own → IsReceipt u w r
+    → ((z : Origin) → u.base ≡ Some z → IsFetched z skip w.seen r) → HasBuilt skip v w (receipts ++ r ∷ [])
+built-more skip v u w receipts r before turned own is fetched =
+    let h = built-then skip v u w receipts before turned own in
     let reached = prefix-length v.seen w.seen (turned-follows v w h.turned) in
     let more = rise-more (length v.seen) (length w.seen) (map (λ r. r.at) receipts) reached h.moments in
     let moments : map (λ r. r.at) receipts ++ length w.seen ∷ [] ≡ map (λ r. r.at) (receipts ++ r ∷ []) =
@@ -77,19 +93,20 @@ built-more v u w receipts r before turned own is =
       own = h.own;
       moments = subst (λ (ms : List ℕ). RiseWithin (length v.seen) (length w.seen) ms) moments more;
       named = λ z e. All-push (NamesUnlessStale z w.seen) receipts r (h.named z e) (is.named z (turned-base v u before.turned ∙ e));
+      fetched = λ z e. All-push (IsFetched z skip w.seen) receipts r (h.fetched z e) (fetched z (turned-base v u before.turned ∙ e));
     }
 
 -- the receipts in other words
-pub built-told : (v w : Known) (receipts same : List Tried) → same ≡ receipts → HasBuilt v w receipts → HasBuilt v w same
-built-told v w receipts same is h = subst (λ (rs : List Tried). HasBuilt v w rs) (sym is) h
+pub built-told : (skip : ℕ) (v w : Known) (receipts same : List Tried) → same ≡ receipts → HasBuilt skip v w receipts → HasBuilt skip v w same
+built-told skip v w receipts same is h = subst (λ (rs : List Tried). HasBuilt skip v w rs) (sym is) h
 
 -- ---- the moments at the end
 
-pub moments-none : (v w : Known) (receipts : List Tried) → HasBuilt v w receipts → RiseWithin (length v.seen) (length w.seen) (map (λ r. r.at) receipts ++ [])
-moments-none v w receipts h = subst (λ (ms : List ℕ). RiseWithin (length v.seen) (length w.seen) ms) (sym (append-nil (map (λ r. r.at) receipts))) h.moments
+pub moments-none : (skip : ℕ) (v w : Known) (receipts : List Tried) → HasBuilt skip v w receipts → RiseWithin (length v.seen) (length w.seen) (map (λ r. r.at) receipts ++ [])
+moments-none skip v w receipts h = subst (λ (ms : List ℕ). RiseWithin (length v.seen) (length w.seen) ms) (sym (append-nil (map (λ r. r.at) receipts))) h.moments
 
-pub moments-all : (v w : Known) (receipts : List Tried) (place : ℕ) → place ≡ length w.seen → HasBuilt v w receipts → RiseWithin (length v.seen) (length w.seen) (map (λ r. r.at) receipts ++ place ∷ [])
-moments-all v w receipts place is h =
+pub moments-all : (skip : ℕ) (v w : Known) (receipts : List Tried) (place : ℕ) → place ≡ length w.seen → HasBuilt skip v w receipts → RiseWithin (length v.seen) (length w.seen) (map (λ r. r.at) receipts ++ place ∷ [])
+moments-all skip v w receipts place is h =
     let reached = prefix-length v.seen w.seen (turned-follows v w h.turned) in
     subst (λ (n : ℕ). RiseWithin (length v.seen) (length w.seen) (map (λ r. r.at) receipts ++ n ∷ [])) (sym is) (rise-more (length v.seen) (length w.seen) (map (λ r. r.at) receipts) reached h.moments)
 
@@ -110,6 +127,9 @@ module _ (v w : Known) (y : Origin) (t : Job) (c : CacheOf) (answer : Install Ca
     named = λ z e none. subst (λ (a : Install CacheOf). NamesIfInstalled (first_version z) w.seen a) is (names z e);
   }
 
+  pub installed-job : (receipt : Tried) → answer ≡ Installed receipt → IsOfJob t receipt
+  installed-job receipt is = let told = installed-told receipt is in (ap (λ (r : Tried). r.row) told, ap (λ (r : Tried). r.index) told, ap (λ (r : Tried). r.stamp) told)
+
   -- one that came too late
   pub stale-told : (receipt : Tried) (back : CacheOf) → answer ≡ Stale receipt back → (back ≡ c) × ((now : Now) × (receipt ≡ receipt_at w.seen t (Some now)))
   stale-told receipt back is = let at_stale = subst (λ (a : Install CacheOf). IsTriedAt (first_version y) w.seen t c a) is (tried y base) in (at_stale.0, (at_stale.1.0, at_stale.1.1))
@@ -121,3 +141,8 @@ module _ (v w : Known) (y : Origin) (t : Job) (c : CacheOf) (answer : Install Ca
         moment = ap (λ (r : Tried). r.at) told.1.1;
         named = λ z e none. absurd (none-some told.1.0 (sym none ∙ ap (λ (r : Tried). r.instead) told.1.1));
       }
+
+  pub stale-job : (receipt : Tried) (back : CacheOf) → answer ≡ Stale receipt back → IsOfJob t receipt
+  stale-job receipt back is =
+      let told = (stale-told receipt back is).1.1 in
+      (ap (λ (r : Tried). r.row) told, ap (λ (r : Tried). r.index) told, ap (λ (r : Tried). r.stamp) told)

@@ -5,22 +5,14 @@ use Rattle.std.proofs.lemmas.Option.{same_Some}
 use Rattle.psi_turnstile.specs.Counting.{IsPrefix, ArePrefixes}
 use Rattle.live_sender.specs.declared.origin.Origin.{Origin}
 use Rattle.live_sender.specs.Histories.{IsHistory}
-use Rattle.live_sender.specs.Turns.{Known, Went}
-use Rattle.psi_rebuilder.specs.Building.{GoesOn, HasTurned, IsSeated}
+use Rattle.live_sender.proofs.Prefixes.{prefix-self, prefix-then}
+use Rattle.live_sender.specs.Turns.{GoesOn, IsSeated, Known, Went}
+use Rattle.psi_rebuilder.specs.Building.{HasTurned}
 
 module _ {A : Type 0} where
-  pub prefix-self : (xs : List A) → IsPrefix xs xs
-  prefix-self xs = ([], sym (append-nil xs))
-
-  pub prefix-then : (xs ys zs : List A) → IsPrefix xs ys → IsPrefix ys zs → IsPrefix xs zs
-  prefix-then xs ys zs p q = (p.0 ++ q.0, q.1 ∙ ap (λ (l : List A). l ++ q.0) p.1 ∙ append_assoc xs p.0 q.0)
-
   prefixes-then : (xss : List (List A)) (ys zs : List A) → ArePrefixes xss ys → IsPrefix ys zs → ArePrefixes xss zs
   prefixes-then [] ys zs p q = tt
   prefixes-then (xs ∷ xss) ys zs p q = (prefix-then xs ys zs p.0 q, prefixes-then xss ys zs p.1 q)
-
-  pub prefix-length : (xs ys : List A) → IsPrefix xs ys → length xs ≤ length ys
-  prefix-length xs ys p = let all = ap length p.1 in omega (arith, all, length-append xs p.0)
 
 -- some turns, and some more
 went-then : (z : Origin) (v u w : Known) → Went z v u → Went z u w → Went z v w
@@ -46,8 +38,8 @@ pub turned-base : (v w : Known) → HasTurned v w → w.base ≡ v.base
 turned-base v w (inl same) = ap (λ (x : Known). x.base) same
 turned-base v w (inr a) = a.2.keeps.base
 
-pub goes-on : (z : Origin) (v w : Known) → IsSeated z v → HasTurned v w → w.own ≡ v.own → GoesOn z v w
-goes-on z v w s (inl same) own = record {
+pub goes-on : (z : Origin) (v w : Known) → IsSeated z v → HasTurned v w → GoesOn z v w
+goes-on z v w s (inl same) = record {
   follows = subst (λ (x : Known). IsPrefix v.seen x.seen) (sym same) (prefix-self v.seen);
   keeps = record {
     base = ap (λ (x : Known). x.base) same;
@@ -56,8 +48,7 @@ goes-on z v w s (inl same) own = record {
     taken = ap (λ (x : Known). x.taken) same ∙ s.taken;
   };
   history = subst (λ (x : Known). IsHistory z x.seen) (sym same) s.history;
-  own = own;
 }
-goes-on z v w s (inr a) own =
+goes-on z v w s (inr a) =
     let same : a.0 ≡ z = same_Some a.0 z (sym a.1 ∙ s.base) in
-    record { follows = a.2.follows.seen; keeps = a.2.keeps; history = subst (λ (o : Origin). IsHistory o w.seen) same a.2.history; own = own }
+    record { follows = a.2.follows.seen; keeps = a.2.keeps; history = subst (λ (o : Origin). IsHistory o w.seen) same a.2.history }

@@ -1,35 +1,23 @@
 -- What a builder leaves, told by what its seat knows.
-use Rattle.std.specs.Prelude.{◌≡◌, ◌⊎◌, ℕ, ◌+◌, ◌-◌, ◌<◌, ◌≤◌, List, [], ◌∷◌, ◌++◌, length, map, Option, Some, None, IsSome}
-use Rattle.std.specs.List.{All, AllPairs}
+use Rattle.std.specs.Prelude.{◌≡◌, ◌⊎◌, ℕ, ◌+◌, ◌-◌, ◌<◌, ◌≤◌, List, [], ◌∷◌, ◌++◌, length, map, max, Option, Some, None, IsSome}
+use Rattle.std.specs.List.{All, AllPairs, fold}
 use Rattle.psi_turnstile.specs.Counting.{IsPrefix}
-use Rattle.psi_turnstile.specs.Knowing.{Keeps}
 use Rattle.psi_bundle.specs.declared.history.Entry.{Entry}
 use Rattle.sender_core.specs.declared.receipt.Now.{Now}
-use Rattle.sender_core.specs.Kept.{View}
-use Rattle.sender_core.specs.Tries.{Tried}
+use Rattle.sender_core.specs.declared.task.Task.{Task}
+use Rattle.sender_core.specs.declared.install.Bare.TheVariants as bare
+use Rattle.sender_core.specs.Kept.{View, Job}
+use Rattle.sender_core.specs.Tries.{Tried, job_of}
 use Rattle.bundle_cache.specs.Caches.{CacheOf, cached_bins, is_cached_under}
 use Rattle.live_sender.specs.declared.origin.Origin.{Origin}
-use Rattle.live_sender.specs.Histories.{first_version, IsHistory}
-use Rattle.live_sender.specs.Turns.{Known, Went, ShowsAt}
+use Rattle.live_sender.specs.Histories.{first_version}
+use Rattle.live_sender.specs.Turns.{Known, TakesTurn, ShowsAt, IsBareAt}
 use Rattle.live_sender.specs.Tries.{IsNamed}
 use Rattle.psi_rebuilder.specs.declared.built.Built.{Built}
 
--- A seat from which nothing taken in is left to be seen, and which has seen a history of its base
-pub record IsSeated (z : Origin) (v : Known) : Type 0 where
-  pub base : v.base ≡ Some z
-  pub taken : v.taken ≡ []
-  pub history : IsHistory z v.seen
-
--- The seat goes on and makes no entry: it has seen a history that begins with what it had seen
-pub record GoesOn (z : Origin) (v w : Known) : Type 0 where
-  pub follows : IsPrefix v.seen w.seen
-  pub keeps : Keeps v w
-  pub history : IsHistory z w.seen
-  pub own : w.own ≡ v.own
-
 -- the seat took no turn, or it went from v to w by turns
 abbrev pub HasTurned : Known → Known → Type 0
-HasTurned v w = (w ≡ v) ⊎ ((z : Origin) × (v.base ≡ Some z) × Went z v w)
+HasTurned v w = (w ≡ v) ⊎ TakesTurn v w
 
 -- as many receipts as the budget, and no showing of all bundles; or fewer, and all bundles
 abbrev pub EndsBy : ℕ → Built → Type 0
@@ -53,6 +41,20 @@ pub record RiseWithin (low high : ℕ) (ms : List ℕ) : Type 0 where
 abbrev pub NamesUnlessStale : Origin → List Entry → Tried → Type 0
 NamesUnlessStale z es receipt = receipt.instead ≡ None → IsNamed (first_version z) es receipt
 
+-- the receipt is of a try with this bundle
+abbrev pub IsOfJob : Job → Tried → Type 0
+IsOfJob t receipt = (receipt.row ≡ t.row) × (receipt.index ≡ t.index) × (receipt.stamp ≡ t.stamp)
+
+-- A receipt's bundle was fetched after a beginning of the history, which the try did not come before: in some book with that history it was,
+-- of the bundles without a cache, the one with the number `skip` modulo their number
+pub record IsFetched (z : Origin) (skip : ℕ) (es : List Entry) (receipt : Tried) : Type 0 where
+  pub seen : List Entry
+  pub begins : IsPrefix seen es
+  pub before : length seen ≤ receipt.at
+  pub task : Task
+  pub bare : IsBareAt cached_bins is_cached_under z seen skip (bare.One task)
+  pub told : IsOfJob (job_of task) receipt
+
 -- All bundles of the replay of the snapshot's place, each with a cache, which is for it
 pub record ShowsAll (z : Origin) (es : List Entry) (s : View CacheOf) : Type 0 where
   pub shown : ShowsAt cached_bins is_cached_under z es s.place s
@@ -66,3 +68,12 @@ left_by (Some now) blocks = blocks + 1
 -- how many it has behind a try with a cache that was built in one of its blocks, where it had one
 abbrev pub shelved : ℕ → Tried → ℕ
 shelved blocks receipt = left_by receipt.instead (blocks - 1)
+
+-- How many blocks it has where memory ran out in a try: as many; or at least the one that a cache which could not be built was to have;
+-- or one less, which was that of a cache that could not be put in
+abbrev pub IsLeftByFault : (blocks left : ℕ) → Type 0
+IsLeftByFault blocks left = (left ≡ blocks) ⊎ ((left ≡ max blocks 1) ⊎ (left ≡ blocks - 1))
+
+-- the same behind some tries, of which there were no more than the budget
+abbrev pub IsLeftByTries : (budget blocks left : ℕ) → Type 0
+IsLeftByTries budget blocks left = (receipts : List Tried) × (length receipts ≤ budget) × IsLeftByFault (fold shelved blocks receipts) left

@@ -8,7 +8,7 @@ use Rattle.live_sender.specs.declared.origin.Origin.{Origin}
 use Rattle.live_sender.specs.Turns.{Known}
 use Rattle.psi_rebuilder.specs.declared.building.Outcome.{Outcome}
 use Rattle.psi_rebuilder.specs.declared.building.Outcome.TheVariants as outcome
-use Rattle.psi_rebuilder.specs.Building.{NamesUnlessStale, ShowsAll, shelved}
+use Rattle.psi_rebuilder.specs.Building.{IsFetched, NamesUnlessStale, ShowsAll, shelved}
 
 -- the cache is for the job's bundle under these parameters, and its block has the size of a bundle
 pub record IsCacheOf (p : Parameters) (t : Job) (c : CacheOf) : Type 0 where
@@ -22,9 +22,9 @@ pub record IsReceipt (v w : Known) (receipt : Tried) : Type 0 where
   pub named : (z : Origin) → v.base ≡ Some z → NamesUnlessStale z w.seen receipt
 
 -- the receipt of a try; or all bundles, each with a cache, after all entries that the seat has seen
-abbrev pub IsOutcome : Known → Known → Outcome → Type 0
-IsOutcome v w (outcome.Tried receipt) = IsReceipt v w receipt
-IsOutcome v w (outcome.Done shown) = (shown.place ≡ length w.seen) × ((z : Origin) → v.base ≡ Some z → ShowsAll z w.seen shown)
+abbrev pub IsOutcome : (skip : ℕ) → Known → Known → Outcome → Type 0
+IsOutcome skip v w (outcome.Tried receipt) = IsReceipt v w receipt × ((z : Origin) → v.base ≡ Some z → IsFetched z skip w.seen receipt)
+IsOutcome skip v w (outcome.Done shown) = (shown.place ≡ length w.seen) × ((z : Origin) → v.base ≡ Some z → ShowsAll z w.seen shown)
 
 -- how many blocks the shelf has then
 abbrev pub shelved_after : ℕ → Outcome → ℕ

@@ -33,7 +33,8 @@ fn open(alloc: Global, params: &Params) -> Option<(Sender<Cache>, Seat<Cache>)>
     requires { ArePassed (parameters_of params.now) }
     ensures here { IfSome result (λ t. t.1.turnstile ≡ t.0) }
     ensures whole { IfSome result (λ t. t.1.knows.share ≡ 4294967296) }
-    ensures under { IfSome result (λ t. (z : Origin) → t.1.knows.base ≡ Some z → z.parameters ≡ parameters_of params.now) }
+    ensures under { IfSome result
+        (λ t. (z : Origin) → t.1.knows.base ≡ Some z → z.parameters ≡ parameters_of params.now) }
 {
     let book = Book::open(alloc, params).ok()?;
     Sender::open(alloc, book).ok()
@@ -84,7 +85,7 @@ fn what_is_told(built: &Built) -> Told {
     }
 }
 
-// Builds with the `skip` 0.
+// Builds with a `skip` and a budget.
 fn build<R: Threads + Wait + Sync, G: Gate>(
     rt: &R,
     alloc: Global,
@@ -92,19 +93,20 @@ fn build<R: Threads + Wait + Sync, G: Gate>(
     seat: &mut Seat<Cache>,
     shelf: &mut Shelf,
     params: &Params,
-    budget: u8,
+    (skip, budget): (u16, u8),
     gate: &G,
 ) -> Option<Told>
     requires passed { ArePassed (parameters_of params.now) }
     requires here { seat.old.turnstile ≡ sender.now }
-    requires under { (z : Origin) → seat.old.knows.base ≡ Some z → z.parameters ≡ parameters_of params.now }
+    requires under { (z : Origin) → seat.old.knows.base ≡ Some z → z.parameters
+        ≡ parameters_of params.now }
     requires shelf { All (IsBundleBlock (parameters_of params.now)) shelf.old }
     ensures here { seat.new.turnstile ≡ seat.old.turnstile }
     ensures base { seat.new.knows.base ≡ seat.old.knows.base }
     ensures shelf { All (IsBundleBlock (parameters_of params.now)) shelf.new }
 {
     let budget = u32::from(budget);
-    let built = build_some(rt, alloc, sender, seat, shelf, params, 0, budget, gate).ok()?;
+    let built = build_some(rt, alloc, sender, seat, shelf, params, skip, budget, gate).ok()?;
     Some(what_is_told(&built))
 }
 
@@ -119,13 +121,24 @@ fn build_one<R: Threads + Wait + Sync, G: Gate>(
 ) -> (Seat<Cache>, Shelf, Option<Told>)
     requires passed { ArePassed (parameters_of params.now) }
     requires here { seat.turnstile ≡ sender.now }
-    requires under { (z : Origin) → seat.knows.base ≡ Some z → z.parameters ≡ parameters_of params.now }
+    requires under { (z : Origin) → seat.knows.base ≡ Some z → z.parameters
+        ≡ parameters_of params.now }
     ensures here { result.0.turnstile ≡ sender.now }
-    ensures under { (z : Origin) → result.0.knows.base ≡ Some z → z.parameters ≡ parameters_of params.now }
+    ensures under { (z : Origin) → result.0.knows.base ≡ Some z → z.parameters
+        ≡ parameters_of params.now }
     ensures shelf { All (IsBundleBlock (parameters_of params.now)) result.1 }
 {
     let mut shelf = Shelf::open();
-    let told = build(rt, alloc, sender, &mut seat, &mut shelf, params, 1, gate);
+    let told = build(
+        rt,
+        alloc,
+        sender,
+        &mut seat,
+        &mut shelf,
+        params,
+        (0, 1),
+        gate,
+    );
     (seat, shelf, told)
 }
 
@@ -163,8 +176,50 @@ fn caches_are_built_where_there_are_none(rt: HostRuntime) {
     ];
     for (budget, receipts, first, all) in table {
         let told = build(
-            &rt, alloc, &sender, &mut seat, &mut shelf, &params, budget, &Open,
+            &rt,
+            alloc,
+            &sender,
+            &mut seat,
+            &mut shelf,
+            &params,
+            (0, budget),
+            &Open,
         );
+        assert_eq!(rt;
+            told,
+            Some(Told {
+                receipts,
+                first,
+                all
+            })
+        );
+    }
+}
+
+#[test]
+fn builders_begin_at_bundles_of_their_own(rt: HostRuntime) {
+    let alloc = rt.alloc();
+    let params = Params::of(1, 1, 0);
+    assert!(rt; check(&params).is_ok());
+    let (sender, mut seat) = open(alloc, &params).expect(&rt, "memory");
+    let mut shelf = Shelf::open();
+    for (slot, place) in [(1, 0), (2, 1), (3, 2)] {
+        let answer = put(&rt, alloc, &sender, &mut seat, made_up(slot, 0));
+        assert_eq!(rt; answer, Some((Put::Added, place)));
+    }
+    // Three bundles have no cache, then two, then one: it is the one with the number `skip` modulo that.
+    for (skip, index, stamp) in [(5, 2, 3), (2, 0, 1), (7, 1, 2)] {
+        let told = build(
+            &rt,
+            alloc,
+            &sender,
+            &mut seat,
+            &mut shelf,
+            &params,
+            (skip, 1),
+            &Open,
+        );
+        let (receipts, first, all) = (1, Some((index, stamp, 3, None)), None);
         assert_eq!(rt;
             told,
             Some(Told {
@@ -216,7 +271,14 @@ fn a_cache_for_a_bundle_that_changed_comes_too_late(rt: HostRuntime) -> Result<(
         })
     );
     let told = build(
-        &rt, alloc, &sender, &mut seat, &mut shelf, &params, 2, &Open,
+        &rt,
+        alloc,
+        &sender,
+        &mut seat,
+        &mut shelf,
+        &params,
+        (0, 2),
+        &Open,
     );
     let (first, all) = (Some((0, 2, 2, None)), Some(2));
     assert_eq!(rt;

@@ -4,7 +4,7 @@ use Rattle.std.specs.List.{All}
 use Rattle.std.specs.FinMap as fin
 use Rattle.std.proofs.Common.{refl, sym, ap, ◌∙◌, arith, subst, length-append, inl, inr}
 use Rattle.std.proofs.lemmas.List.{length-map}
-use Rattle.std.proofs.lemmas.List.Elements.{All-replicate, All-nil}
+use Rattle.std.proofs.lemmas.List.Elements.{All-replicate, All-nil, All-push, All-weaker}
 use Rattle.std.proofs.lemmas.List.Sums.{fold-append}
 use Rattle.psi_residue.specs.Parameters.{Parameters, parameter_bytes}
 use Rattle.psi_bundle.specs.declared.member.Member.{Member}
@@ -13,14 +13,15 @@ use Rattle.psi_bundle.specs.declared.history.Answer.{Answer}
 use Rattle.psi_bundle.specs.declared.history.Entry.{Entry}
 use Rattle.psi_bundle.specs.Versions.{Version, Row, IsSound, empty_version, planes_of}
 use Rattle.psi_bundle.specs.Steps.{step}
-use Rattle.psi_bundle.specs.Histories.{after, replay, IsLegal, IsFitting}
+use Rattle.psi_bundle.specs.Histories.{after, replay, version_at, IsLegal, IsFitting, HasBytes, HoldBytes, most_entries}
 use Rattle.noise_ledger.specs.Verdicts.{ArePassed}
-use Rattle.sender_core.specs.Kept.{Kept, Contents, most_entries, row_of, rows_of, version_of, start_of, empty_contents, kept_row, kept_at, CacheSuits, IsSameOrBare, IsAsBefore, IsStep, IsReady, IsStart, IsConsistent}
+use Rattle.sender_core.specs.Kept.{Kept, Contents, row_of, rows_of, version_of, start_of, start_from, labels_in, empty_start, empty_contents, kept_row, kept_at, CacheSuits, IsSameOrBare, IsAsBefore, IsStep, CanStep, IsStart, HoldsBytes, IsConsistent}
 use Rattle.sender_core.specs.Sights.{with_cached_bins}
 use Rattle.sender_core.specs.Soundness.{HasRoom}
 use Rattle.sender_core.proofs.SoundSteps.{sound-empty}
-use Rattle.sender_core.proofs.SoundHistories.{sound-step}
+use Rattle.sender_core.proofs.SoundHistories.{sound-step, sound-version_at}
 use Rattle.sender_core.proofs.Counting.{size-kept}
+use Rattle.sender_core.proofs.HistoryBytes.{empty-bytes, step-bytes, versions-bytes}
 
 -- one entry more is legal where its answer is the step's
 legal-append : (v : Version) (es : List Entry) (e : Entry) → IsLegal v es → e.answer ≡ (step (replay v es) e.call).answer → IsLegal v (es ++ e ∷ [])
@@ -48,8 +49,38 @@ module _ {C : Type 0} (old new : Contents C) (c : Call) (answer : Answer) (h : I
   replayed-after start replayed =
       ap (replay start) h.journal ∙ fold-append after start old.journal (entry ∷ []) ∙ ap (λ (w : Version). after w entry) replayed ∙ sym h.version
 
+  pub bytes-after : HoldsBytes old → IsFitting old.parameters c × HasBytes c → HoldsBytes new
+  bytes-after was taken = record {
+    start = subst (λ (w : Version). HoldBytes w.labels) same-start was.start;
+    calls =
+        let before : All (λ e. IsFitting old.parameters e.call × HasBytes e.call) (old.journal ++ entry ∷ []) =
+        All-push (λ e. IsFitting old.parameters e.call × HasBytes e.call) old.journal entry was.calls taken in
+        subst (λ (p : Parameters). All (λ e. IsFitting p e.call × HasBytes e.call) new.journal) (sym h.same_parameters)
+        (subst (λ (es : List Entry). All (λ e. IsFitting old.parameters e.call × HasBytes e.call) es) (sym h.journal) before);
+    version = subst (λ (w : Version). HoldBytes w.labels) (sym h.version) (step-bytes (version_of old) c was.version taken.1);
+  }
+
   pub few-after : length old.journal < most_entries → length new.journal ≤ most_entries
   few-after free = let more : length new.journal ≡ length old.journal + 1 = ap length h.journal ∙ length-append old.journal (entry ∷ []) in omega (arith, more, free)
+
+-- rows without bundles
+module _ (C : Type 0) where
+  pub no_row : (n r : ℕ) → kept_row {C = C} (replicate n []) r ≡ []
+  no_row zero r = refl
+  no_row (suc n) zero = refl
+  no_row (suc n) (suc r) = no_row n r
+
+  pub rows_alone : (n : ℕ) → rows_of {C = C} (replicate n []) ≡ replicate n []
+  rows_alone zero = refl
+  rows_alone (suc n) = ap (λ (rows : List Row). [] ∷ rows) (rows_alone n)
+
+  -- a start without bundles is the empty one
+  pub start-empty : (p : Parameters) (rows : List (List (Kept C))) → rows ≡ replicate p.rows [] → start_from (rows_of rows) ≡ empty_start p
+  start-empty p rows are = ap (λ (rs : List (List (Kept C))). start_from (rows_of rs)) are ∙ ap start_from (rows_alone p.rows) ∙ ap (λ (ls : List (List ℕ × List ℕ)). record { labels = ls; rows = replicate p.rows [] }) (no_labels p.rows)
+    where
+      no_labels : (n : ℕ) → labels_in (replicate n []) ≡ []
+      no_labels zero = refl
+      no_labels (suc n) = no_labels n
 
 module _ {C : Type 0} (contents : C → List (List Member)) (is_under : C → List ℕ → Type 0) where
   still_suits : (p : Parameters) (stamp : ℕ) (old new : Kept C) → CacheSuits contents is_under p old → IsSameOrBare stamp old new → CacheSuits contents is_under p new
@@ -60,43 +91,44 @@ module _ {C : Type 0} (contents : C → List (List Member)) (is_under : C → Li
   caches-after old new c answer h p each r u = still_suits p (length old.journal + 1) (kept_at (kept_row old.rows r) u) (kept_at (kept_row new.rows r) u) (each r u) (h.caches r u)
 
   -- after one step
-  consistent-after : (old new : Contents C) (c : Call) (answer : Answer) → IsConsistent contents is_under old → length old.journal < most_entries → IsFitting old.parameters c
+  consistent-after : (old new : Contents C) (c : Call) (answer : Answer) → IsConsistent contents is_under old → length old.journal < most_entries → IsFitting old.parameters c × HasBytes c
       → IsStep old new c answer → IsConsistent contents is_under new
-  consistent-after old new c answer was free fit h =
+  consistent-after old new c answer was free taken h =
       let v = version_of old in
       let room : HasRoom old.parameters = record { some_rows = was.passed.ranges.some_rows; some_members = was.passed.ranges.some_members } in
       let start = same-start old new c answer h in
       record {
         passed = subst ArePassed (sym h.same_parameters) was.passed;
-        sound = subst IsSound (sym h.version) (sound-step v c room was.sound fit);
+        sound = subst IsSound (sym h.version) (sound-step v c room was.sound taken.0);
         begun = subst IsStart start was.begun;
         few = few-after old new c answer h free;
         legal = subst (λ (w : Version). IsLegal w new.journal) start (legal-after old new c answer h (start_of old) was.legal was.replayed);
         replayed = ap (λ (w : Version). replay w new.journal) (sym start) ∙ replayed-after old new c answer h (start_of old) was.replayed;
         caches = caches-after old new c answer h new.parameters
             (λ r u. subst (λ (p : Parameters). CacheSuits contents is_under p (kept_at (kept_row old.rows r) u)) (sym h.same_parameters) (was.caches r u));
+        bytes = bytes-after old new c answer h was.bytes taken;
       }
 
   -- after a call that was refused
   consistent-before : (old new : Contents C) → IsConsistent contents is_under old → IsAsBefore old new → IsConsistent contents is_under new
   consistent-before old new was kept =
       let same : IsConsistent contents is_under (record old { room = new.room }) =
-      record { passed = was.passed; sound = was.sound; begun = was.begun; few = was.few; legal = was.legal; replayed = was.replayed; caches = was.caches } in
+      record { passed = was.passed; sound = was.sound; begun = was.begun; few = was.few; legal = was.legal; replayed = was.replayed; caches = was.caches; bytes = record { start = was.bytes.start; calls = was.bytes.calls; version = was.bytes.version } } in
       subst (IsConsistent contents is_under) (sym kept) same
 
   -- after one call, whether it was taken or refused
   pub consistent-either : {T E : Type 0} (r : Result T E) (old new : Contents C) (c : Call) (answer : T → Answer) → IsConsistent contents is_under old → length old.journal < most_entries
-      → IsFitting old.parameters c → IfOk r (λ t. IsStep old new c (answer t)) → OnErr r (IsAsBefore old new) → IsConsistent contents is_under new
+      → IsFitting old.parameters c × HasBytes c → IfOk r (λ t. IsStep old new c (answer t)) → OnErr r (IsAsBefore old new) → IsConsistent contents is_under new
   consistent-either (Ok t) old new c answer was free fit h kept = consistent-after old new c (answer t) was free fit h
   consistent-either (Err e) old new c answer was free fit h kept = consistent-before old new was kept
 
   pub consistent-done : {E : Type 0} (r : Result (Unit {0}) E) (old new : Contents C) (c : Call) (answer : Answer) → IsConsistent contents is_under old → length old.journal < most_entries
-      → IsFitting old.parameters c → OnOk r (IsStep old new c answer) → OnErr r (IsAsBefore old new) → IsConsistent contents is_under new
+      → IsFitting old.parameters c × HasBytes c → OnOk r (IsStep old new c answer) → OnErr r (IsAsBefore old new) → IsConsistent contents is_under new
   consistent-done (Ok t) old new c answer was free fit h kept = consistent-after old new c answer was free fit h
   consistent-done (Err e) old new c answer was free fit h kept = consistent-before old new was kept
 
   -- a book is ready for a step
-  pub ready : (h : Contents C) → IsConsistent contents is_under h → IsReady h
+  pub ready : (h : Contents C) → IsConsistent contents is_under h → CanStep h
   ready h was =
       let planes : planes_of h.parameters (rows_of h.rows) ≤ 64 = was.sound.limits.0 in
       record {
@@ -109,19 +141,10 @@ module _ {C : Type 0} (contents : C → List (List Member)) (is_under : C → Li
         few_entries = was.few;
       }
 
-  pub no_row : (n r : ℕ) → kept_row {C = C} (replicate n []) r ≡ []
-  no_row zero r = refl
-  no_row (suc n) zero = refl
-  no_row (suc n) (suc r) = no_row n r
-
-  pub rows_alone : (n : ℕ) → rows_of {C = C} (replicate n []) ≡ replicate n []
-  rows_alone zero = refl
-  rows_alone (suc n) = ap (λ (rows : List Row). [] ∷ rows) (rows_alone n)
-
   -- a new book
   pub consistent-empty : (p : Parameters) → ArePassed p → IsConsistent contents is_under (empty_contents p)
   consistent-empty p passed =
-      let is : version_of {C = C} (empty_contents p) ≡ empty_version p = ap (λ (rows : List Row). record { parameters = p; count = 0; labels = fin.empty; rows = rows }) (rows_alone p.rows) in
+      let is : version_of {C = C} (empty_contents p) ≡ empty_version p = ap (λ (rows : List Row). record { parameters = p; count = 0; labels = fin.empty; rows = rows }) (rows_alone C p.rows) in
       record {
         passed = passed;
         sound = subst IsSound (sym is) (sound-empty p);
@@ -129,7 +152,8 @@ module _ {C : Type 0} (contents : C → List (List Member)) (is_under : C → Li
         few = omega arith;
         legal = tt;
         replayed = sym is;
-        caches = λ r u. subst (λ (ks : List (Kept C)). CacheSuits contents is_under p (kept_at ks u)) (sym (no_row p.rows r)) tt;
+        caches = λ r u. subst (λ (ks : List (Kept C)). CacheSuits contents is_under p (kept_at ks u)) (sym (no_row C p.rows r)) tt;
+        bytes = record { start = empty-bytes p; calls = All-nil (λ e. IsFitting p e.call × HasBytes e.call); version = empty-bytes p };
       }
 
   -- a bundle is seen as it is kept
@@ -145,3 +169,13 @@ module _ {C : Type 0} (contents : C → List (List Member)) (is_under : C → Li
   pub seen_rows : (p : Parameters) (rows : List (List (Kept C))) → ((r u : ℕ) → CacheSuits contents is_under p (kept_at (kept_row rows r) u)) → map (map (with_cached_bins contents)) rows ≡ rows
   seen_rows p [] h = refl
   seen_rows p (ks ∷ rows) h = λ i. seen_row p ks (λ u. h 0 u) i ∷ seen_rows p rows (λ r u. h (suc r) u) i
+
+  -- each version that its journal leads to is sound and holds bytes
+  pub versions-keep : (h : Contents C) → IsConsistent contents is_under h → (k : ℕ) → IsSound (version_at (start_of h) h.journal k) × HoldBytes (version_at (start_of h) h.journal k).labels
+  versions-keep h was k =
+      let room : HasRoom h.parameters = record { some_rows = was.passed.ranges.some_rows; some_members = was.passed.ranges.some_members } in (
+        sound-version_at (start_of h) h.journal room was.begun.sound
+            (All-weaker (λ e. IsFitting h.parameters e.call × HasBytes e.call) (λ e. IsFitting h.parameters e.call) (λ e is. is.0) h.journal was.bytes.calls) k,
+        versions-bytes (start_of h) h.journal was.bytes.start
+            (All-weaker (λ e. IsFitting h.parameters e.call × HasBytes e.call) (λ e. HasBytes e.call) (λ e is. is.1) h.journal was.bytes.calls) k,
+      )

@@ -14,7 +14,7 @@ use Rattle.psi_bundle.specs.Versions.{Version, Row, Labels, placed, placed_at, c
 use Rattle.item_slots.specs.Tags.{positions_of}
 use Rattle.psi_bundle.specs.Steps.{Step, step, replace, add, remove, fits, next, unchanged}
 use Rattle.sender_core.specs.Kept.{Kept, Contents, version_of, rows_of, KeepCaches, IsStep}
-use Rattle.sender_core.specs.States.{IsEntered}
+use Rattle.sender_core.specs.States.{GainsEntry}
 use Rattle.sender_core.proofs.Caches.{same-rows}
 
 pub first_of_two : (b : Bool) (x y : Step) → b ≡ true → (if b then x else y) ≡ x
@@ -57,43 +57,43 @@ step-seen v = refl
 
 module _ {C : Type 0} (old new : Contents C) where
   -- the version after an entry
-  pub version-entered : (labels : Labels) (rows : List (List (Kept C))) (e : Entry) → IsEntered old new labels rows e → version_of new ≡ next (version_of old) labels (rows_of rows)
+  pub version-entered : (labels : Labels) (rows : List (List (Kept C))) (e : Entry) → GainsEntry old new labels rows e → version_of new ≡ next (version_of old) labels (rows_of rows)
   version-entered labels rows e h =
       let counted : length new.journal ≡ length old.journal + 1 = ap length h.written ∙ length-append old.journal (e ∷ []) in
-      λ i. record { parameters = h.parameters i; count = counted i; labels = h.labelled i; rows = rows_of (h.bundled i) }
+      λ i. record { parameters = h.parameters i; count = counted i; labels = h.labelled i; rows = rows_of (h.stands i) }
 
   -- an entry that is written after a part of the contents was changed
   pub entered-after : (mid : Contents C) (before labels : Labels) (rows : List (List (Kept C))) (e : Entry) → mid.parameters ≡ old.parameters → mid.start ≡ old.start → mid.journal ≡ old.journal → before ≡ labels
-      → IsEntered mid new before rows e → IsEntered old new labels rows e
+      → GainsEntry mid new before rows e → GainsEntry old new labels rows e
   entered-after mid before labels rows e parameters start journal is h = record {
     parameters = h.parameters ∙ parameters;
     start = h.start ∙ start;
     labelled = h.labelled ∙ is;
-    bundled = h.bundled;
+    stands = h.stands;
     written = h.written ∙ ap (λ (es : List Entry). es ++ e ∷ []) journal;
   }
 
   -- an entry that is written after the rows were as before
   pub entered-undone : (mid : Contents C) (rows : List (List (Kept C))) → rows ≡ old.rows → (e : Entry) → mid.parameters ≡ old.parameters → mid.start ≡ old.start → mid.journal ≡ old.journal
-      → IsEntered mid new (version_of old).labels rows e → IsEntered old new (version_of old).labels old.rows e
+      → GainsEntry mid new (version_of old).labels rows e → GainsEntry old new (version_of old).labels old.rows e
   entered-undone mid rows is e parameters start journal h =
-      entered-after mid (version_of old).labels (version_of old).labels old.rows e parameters start journal refl (subst (λ (rs : List (List (Kept C))). IsEntered mid new (version_of old).labels rs e) is h)
+      entered-after mid (version_of old).labels (version_of old).labels old.rows e parameters start journal refl (subst (λ (rs : List (List (Kept C))). GainsEntry mid new (version_of old).labels rs e) is h)
 
   -- an entry with the step's answer, labels and rows
   pub entered : (c : Call) (s : Step) (labels : Labels) (rows : List (List (Kept C))) → step (version_of old) c ≡ s → s.version ≡ next (version_of old) labels (rows_of rows)
-      → IsEntered old new labels rows (record { call = c; answer = s.answer }) → KeepCaches (length old.journal + 1) old.rows rows → IsStep old new c s.answer
+      → GainsEntry old new labels rows (record { call = c; answer = s.answer }) → KeepCaches (length old.journal + 1) old.rows rows → IsStep old new c s.answer
   entered c s labels rows is to h keep = record {
     same_parameters = h.parameters;
     same_start = h.start;
     answered = ap (λ (t : Step). t.answer) (sym is);
     version = version-entered labels rows _ h ∙ sym to ∙ ap (λ (t : Step). t.version) (sym is);
     journal = h.written;
-    caches = subst (KeepCaches (length old.journal + 1) old.rows) (sym h.bundled) keep;
+    caches = subst (KeepCaches (length old.journal + 1) old.rows) (sym h.stands) keep;
   }
 
   pub replaced : (tag label : List ℕ) (rows : List (List (Kept C))) → is_some (fin.get (version_of old).labels tag) ≡ true
       → rows_of rows ≡ changed old.parameters (length old.journal + 1) (λ bin. relabelled bin tag label) tag (rows_of old.rows)
-      → IsEntered old new (fin.insert (version_of old).labels tag label) rows (record { call = call.Put tag label; answer = answer.Replaced })
+      → GainsEntry old new (fin.insert (version_of old).labels tag label) rows (record { call = call.Put tag label; answer = answer.Replaced })
       → KeepCaches (length old.journal + 1) old.rows rows → IsStep old new (call.Put tag label) answer.Replaced
   replaced tag label rows has made h keep =
       let v = version_of old in
@@ -101,7 +101,7 @@ module _ {C : Type 0} (old new : Contents C) where
 
   pub added : (tag label : List ℕ) (rows : List (List (Kept C))) → is_some (fin.get (version_of old).labels tag) ≡ false
       → rows_of rows ≡ fitted (version_of old) tag label → fits old.parameters (rows_of rows) ≡ true
-      → IsEntered old new (fin.insert (version_of old).labels tag label) rows (record { call = call.Put tag label; answer = answer.Added })
+      → GainsEntry old new (fin.insert (version_of old).labels tag label) rows (record { call = call.Put tag label; answer = answer.Added })
       → KeepCaches (length old.journal + 1) old.rows rows → IsStep old new (call.Put tag label) answer.Added
   added tag label rows lacks made fit h keep =
       let v = version_of old in
@@ -109,7 +109,7 @@ module _ {C : Type 0} (old new : Contents C) where
 
   pub full : (tag label : List ℕ) (rows : List (List (Kept C))) → is_some (fin.get (version_of old).labels tag) ≡ false
       → rows_of rows ≡ fitted (version_of old) tag label → fits old.parameters (rows_of rows) ≡ false
-      → IsEntered old new (version_of old).labels old.rows (record { call = call.Put tag label; answer = answer.Full (planes_of old.parameters (rows_of rows)) (cells_of old.parameters (rows_of rows)) })
+      → GainsEntry old new (version_of old).labels old.rows (record { call = call.Put tag label; answer = answer.Full (planes_of old.parameters (rows_of rows)) (cells_of old.parameters (rows_of rows)) })
       → IsStep old new (call.Put tag label) (answer.Full (planes_of old.parameters (rows_of rows)) (cells_of old.parameters (rows_of rows)))
   full tag label rows lacks made over h =
       let v = version_of old in
@@ -118,19 +118,19 @@ module _ {C : Type 0} (old new : Contents C) where
 
   pub removed : (tag : List ℕ) (rows : List (List (Kept C))) → is_some (fin.get (version_of old).labels tag) ≡ true
       → rows_of rows ≡ changed old.parameters (length old.journal + 1) (λ bin. without bin tag) tag (rows_of old.rows)
-      → IsEntered old new (fin.remove (version_of old).labels tag) rows (record { call = call.Drop tag; answer = answer.Removed })
+      → GainsEntry old new (fin.remove (version_of old).labels tag) rows (record { call = call.Drop tag; answer = answer.Removed })
       → KeepCaches (length old.journal + 1) old.rows rows → IsStep old new (call.Drop tag) answer.Removed
   removed tag rows has made h keep =
       let v = version_of old in
       entered (call.Drop tag) (remove v tag) (fin.remove v.labels tag) rows (step-removed v tag has) (ap (next v (fin.remove v.labels tag)) (sym made)) h keep
 
   pub absent : (tag : List ℕ) → is_some (fin.get (version_of old).labels tag) ≡ false
-      → IsEntered old new (version_of old).labels old.rows (record { call = call.Drop tag; answer = answer.Absent }) → IsStep old new (call.Drop tag) answer.Absent
+      → GainsEntry old new (version_of old).labels old.rows (record { call = call.Drop tag; answer = answer.Absent }) → IsStep old new (call.Drop tag) answer.Absent
   absent tag lacks h =
       let v = version_of old in
       entered (call.Drop tag) _ v.labels old.rows (step-absent v tag lacks) refl h (same-rows (length old.journal + 1) old.rows)
 
-  pub seen : IsEntered old new (version_of old).labels old.rows (record { call = call.Ask; answer = answer.Seen }) → IsStep old new call.Ask answer.Seen
+  pub seen : GainsEntry old new (version_of old).labels old.rows (record { call = call.Ask; answer = answer.Seen }) → IsStep old new call.Ask answer.Seen
   seen h =
       let v = version_of old in
       entered call.Ask _ v.labels old.rows (step-seen v) refl h (same-rows (length old.journal + 1) old.rows)
@@ -143,14 +143,14 @@ module _ {C : Type 0} (old new : Contents C) where
 
     pub replaced-by : (label : List ℕ) → is_some (fin.get (version_of old).labels tag) ≡ true
         → rows_of rows ≡ fold (changed_at (n + 1) (λ bin. relabelled bin tag label) tag) (rows_of before) ps
-        → IsEntered old new (fin.insert (version_of old).labels tag label) rows (record { call = call.Put tag label; answer = answer.Replaced })
+        → GainsEntry old new (fin.insert (version_of old).labels tag label) rows (record { call = call.Put tag label; answer = answer.Replaced })
         → IsStep old new (call.Put tag label) answer.Replaced
     replaced-by label has made h =
         replaced tag label rows has (made ∙ (λ i. fold (changed_at (is_n i + 1) (λ bin. relabelled bin tag label) tag) (rows_of (is_before i)) (is_ps i))) h keep_old
 
     pub removed-by : is_some (fin.get (version_of old).labels tag) ≡ true
         → rows_of rows ≡ fold (changed_at (n + 1) (λ bin. without bin tag) tag) (rows_of before) ps
-        → IsEntered old new (fin.remove (version_of old).labels tag) rows (record { call = call.Drop tag; answer = answer.Removed })
+        → GainsEntry old new (fin.remove (version_of old).labels tag) rows (record { call = call.Drop tag; answer = answer.Removed })
         → IsStep old new (call.Drop tag) answer.Removed
     removed-by has made h =
         removed tag rows has (made ∙ (λ i. fold (changed_at (is_n i + 1) (λ bin. without bin tag) tag) (rows_of (is_before i)) (is_ps i))) h keep_old
@@ -164,25 +164,25 @@ module _ {C : Type 0} (old new : Contents C) where
       fits_is : (a b : Bool) → nat_le planes 64 ≡ a → nat_le cells 4096 ≡ b → fits old.parameters (rows_of rows) ≡ a && b
       fits_is a b p q = λ i. (ap (λ (k : ℕ). nat_le k 64) (sym is_planes) ∙ p) i && (ap (λ (k : ℕ). nat_le k 4096) (sym is_cells) ∙ q) i
 
-      pub added-by : planes ≤ 64 → cells ≤ 4096 → IsEntered old new (fin.insert (version_of old).labels tag label) rows (record { call = call.Put tag label; answer = answer.Added })
+      pub added-by : planes ≤ 64 → cells ≤ 4096 → GainsEntry old new (fin.insert (version_of old).labels tag label) rows (record { call = call.Put tag label; answer = answer.Added })
           → IsStep old new (call.Put tag label) answer.Added
       added-by p q h = added tag label rows lacks fitted_is (fits_is true true (le-leb planes 64 p) (le-leb cells 4096 q)) h keep_old
 
-      full_of : fits old.parameters (rows_of rows) ≡ false → IsEntered old new (version_of old).labels old.rows (record { call = call.Put tag label; answer = answer.Full planes cells })
+      full_of : fits old.parameters (rows_of rows) ≡ false → GainsEntry old new (version_of old).labels old.rows (record { call = call.Put tag label; answer = answer.Full planes cells })
           → IsStep old new (call.Put tag label) (answer.Full planes cells)
       full_of over h =
           let told : answer.Full planes cells ≡ answer.Full (planes_of old.parameters (rows_of rows)) (cells_of old.parameters (rows_of rows)) = λ i. answer.Full (is_planes i) (is_cells i) in
           subst (IsStep old new (call.Put tag label)) (sym told)
-          (full tag label rows lacks fitted_is over (subst (λ (a : Answer). IsEntered old new (version_of old).labels old.rows (record { call = call.Put tag label; answer = a })) told h))
+          (full tag label rows lacks fitted_is over (subst (λ (a : Answer). GainsEntry old new (version_of old).labels old.rows (record { call = call.Put tag label; answer = a })) told h))
 
       both_false : (b : Bool) → b && false ≡ false
       both_false true = refl
       both_false false = refl
 
-      pub full-planes : 64 < planes → IsEntered old new (version_of old).labels old.rows (record { call = call.Put tag label; answer = answer.Full planes cells })
+      pub full-planes : 64 < planes → GainsEntry old new (version_of old).labels old.rows (record { call = call.Put tag label; answer = answer.Full planes cells })
           → IsStep old new (call.Put tag label) (answer.Full planes cells)
       full-planes p h = full_of (fits_is false (nat_le cells 4096) (lt-leb planes 64 p) refl) h
 
-      pub full-cells : 4096 < cells → IsEntered old new (version_of old).labels old.rows (record { call = call.Put tag label; answer = answer.Full planes cells })
+      pub full-cells : 4096 < cells → GainsEntry old new (version_of old).labels old.rows (record { call = call.Put tag label; answer = answer.Full planes cells })
           → IsStep old new (call.Put tag label) (answer.Full planes cells)
       full-cells q h = full_of (fits_is (nat_le planes 64) false refl (lt-leb cells 4096 q) ∙ both_false (nat_le planes 64)) h

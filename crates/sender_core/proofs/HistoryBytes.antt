@@ -50,7 +50,7 @@ either_step : (b : Bool) (x y : Step) → HoldBytes x.version.labels → HoldByt
 either_step true x y hx hy = hx
 either_step false x y hx hy = hy
 
-step-bytes : (v : Version) (c : Call) → HoldBytes v.labels → HasBytes c → HoldBytes (step v c).version.labels
+pub step-bytes : (v : Version) (c : Call) → HoldBytes v.labels → HasBytes c → HoldBytes (step v c).version.labels
 unfolding step
 step-bytes v (call.Put tag label) all bytes =
     either_step (is_some (fin.get v.labels tag)) (replace v tag label) _ (insert-bytes v.labels tag label all bytes)

@@ -146,6 +146,7 @@ module _ {C : Type 0} (contents : C → List (List Member)) (is_under : C → Li
     legal = was.legal;
     replayed = was.replayed ∙ version-with h t.row t.index c;
     caches = caches-installed (start_of h) h t c was.begun was.replayed given was.caches same under e;
+    bytes = record { start = was.bytes.start; calls = was.bytes.calls; version = was.bytes.version };
   })
 
 -- ---- bundles without a cache

@@ -11,12 +11,12 @@ use Rattle.psi_bundle.specs.declared.history.Call.TheVariants as call
 use Rattle.psi_bundle.specs.declared.history.Answer.{Answer}
 use Rattle.psi_bundle.specs.declared.history.Entry.{Entry}
 use Rattle.psi_bundle.specs.Versions.{Version, Row, row_at}
-use Rattle.psi_bundle.specs.Histories.{IsLegal, replay}
-use Rattle.sender_core.specs.Kept.{Kept, Contents, View, RowSight, Job, most_entries, version_of, start_of, empty_contents, kept_row, kept_at, CacheSuits, IsAsBefore, IsStep, IsStart}
+use Rattle.psi_bundle.specs.Histories.{IsLegal, replay, most_entries}
+use Rattle.sender_core.specs.Kept.{Kept, Contents, View, RowSight, Job, version_of, start_of, empty_contents, kept_row, kept_at, CacheSuits, IsAsBefore, IsStep, IsStart}
 use Rattle.sender_core.specs.Stamps.{bundle_at}
 use Rattle.sender_core.specs.Given.{IsViewOf, IsJobOf, row_sight_of, sight_of, bare_rows}
 use Rattle.sender_core.specs.Installs.{installed}
-use Rattle.sender_core.specs.Events.{World, Event, put, drop_tag, ask, fetch_row, fetch_bare, commit, install, finish, IsCalled, fetched_by, Happens, Happen, IsFirst, world_of, IsShown, Interleaved, NumbersInterleaved, EmptyIsFirst}
+use Rattle.sender_core.specs.Events.{World, Event, put, drop_tag, ask, fetch_row, fetch_bare, commit, install, finish, IsStepOrRefused, fetched_by, Happens, Happen, IsFirst, world_of, IsShown, Interleaved, NumbersInterleaved, EmptyIsFirst}
 use Rattle.sender_core.proofs.Consistency.{same-start, legal-after, replayed-after, few-after, caches-after, no_row, rows_alone, unstamped}
 use Rattle.sender_core.proofs.SoundSteps.{sound-empty}
 use Rattle.sender_core.proofs.Installing.{installed-either, caches-installed, version-with, job-given}
@@ -150,7 +150,7 @@ module _ {C : Type 0} (contents : C → List (List Member)) (is_under : C → Li
     pub book : BookHolds w.book
     pub given : GivenHolds w.book.journal w
 
-  called : (old given : World C) (c : Call) (new : World C) → BookHolds old.book → GivenHolds old.book.journal old → GivenHolds old.book.journal given → IsCalled old given c new → Holds new
+  called : (old given : World C) (c : Call) (new : World C) → BookHolds old.book → GivenHolds old.book.journal old → GivenHolds old.book.journal given → IsStepOrRefused old given c new → Holds new
   called old given c new b was gives (inl refused) =
       let journal : old.book.journal ≡ new.book.journal = ap (λ (h : Contents C). h.journal) (sym refused.1) in
       record {
@@ -195,7 +195,7 @@ module _ {C : Type 0} (contents : C → List (List Member)) (is_under : C → Li
 
   -- ---- a snapshot stays given
 
-  called-keeps : (old given : World C) (c : Call) (new : World C) (s : View C) → Contains old.snapshots s → Contains given.snapshots s → IsCalled old given c new → Contains new.snapshots s
+  called-keeps : (old given : World C) (c : Call) (new : World C) (s : View C) → Contains old.snapshots s → Contains given.snapshots s → IsStepOrRefused old given c new → Contains new.snapshots s
   called-keeps old given c new s was gives (inl refused) = subst (λ (w : World C). Contains w.snapshots s) (sym refused.0) was
   called-keeps old given c new s was gives (inr stepped) = subst (λ (w : World C). Contains w.snapshots s) (sym stepped.1.2) gives
 
@@ -270,9 +270,9 @@ module _ {C : Type 0} (contents : C → List (List Member)) (is_under : C → Li
   pub empty-first : (p : Parameters) → IsFirst contents is_under (empty_contents p)
   empty-first p = record {
     begun = record { sound = sound-empty p; no_entries = refl; no_stamps = unstamped p.rows };
-    version = ap (λ (rows : List Row). record { parameters = p; count = 0; labels = fin.from_entries []; rows = rows }) (rows_alone contents is_under p.rows);
+    version = ap (λ (rows : List Row). record { parameters = p; count = 0; labels = fin.from_entries []; rows = rows }) (rows_alone C p.rows);
     no_entries = refl;
-    no_caches = λ r u. ap (λ (ks : List (Kept C)). (kept_at ks u).cache) (no_row contents is_under p.rows r);
+    no_caches = λ r u. ap (λ (ks : List (Kept C)). (kept_at ks u).cache) (no_row C p.rows r);
   }
 
 pub numbers-interleaved : NumbersInterleaved

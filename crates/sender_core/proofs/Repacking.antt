@@ -14,7 +14,7 @@ use Rattle.psi_bundle.specs.Shows.{packed_bins}
 use Rattle.psi_bundle.specs.Steps.{Step, step, next, unchanged}
 use Rattle.psi_bundle.specs.Histories.{replay}
 use Rattle.sender_core.specs.Kept.{Kept, Contents, RowSight, row_of, rows_of, version_of, start_of, kept_row, kept_at, IsSameOrBare, RowKeepsCaches, IsStep, IsConsistent}
-use Rattle.sender_core.specs.States.{IsEntered}
+use Rattle.sender_core.specs.States.{GainsEntry}
 use Rattle.sender_core.specs.Changes.{bare_with}
 use Rattle.sender_core.specs.Given.{IsViewOf, IsPackedFor}
 use Rattle.sender_core.proofs.Caches.{same-rows, rows-set}
@@ -108,21 +108,21 @@ module _ {C : Type 0} (old new : Contents C) (r from : ℕ) where
   newest-is = ap greatest_stamp (sym (row-alone old.rows r))
 
   pub moved : (stamp : ℕ) → stamp ≡ greatest_stamp (row_of (kept_row old.rows r)) → from < stamp
-      → IsEntered old new (version_of old).labels old.rows (record { call = call.Repack r from; answer = answer.Moved stamp }) → IsStep old new (call.Repack r from) (answer.Moved stamp)
+      → GainsEntry old new (version_of old).labels old.rows (record { call = call.Repack r from; answer = answer.Moved stamp }) → IsStep old new (call.Repack r from) (answer.Moved stamp)
   moved stamp is above h =
       let v = version_of old in
       let told : stamp ≡ greatest_stamp (row_at v.rows r) = is ∙ newest-is in
       let over : from < greatest_stamp (row_at v.rows r) = subst (λ (k : ℕ). from < k) told above in
       subst (λ (k : ℕ). IsStep old new (call.Repack r from) (answer.Moved k)) (sym told)
       (entered old new (call.Repack r from) _ v.labels old.rows (step-moved v r from (lt-leb (greatest_stamp (row_at v.rows r)) from over)) refl
-      (subst (λ (k : ℕ). IsEntered old new v.labels old.rows (record { call = call.Repack r from; answer = answer.Moved k })) told h) (same-rows (length old.journal + 1) old.rows))
+      (subst (λ (k : ℕ). GainsEntry old new v.labels old.rows (record { call = call.Repack r from; answer = answer.Moved k })) told h) (same-rows (length old.journal + 1) old.rows))
 
   module _ (stamp : ℕ) (is : stamp ≡ greatest_stamp (row_of (kept_row old.rows r))) (below : stamp ≤ from) where
     stands : nat_le (greatest_stamp (row_at (rows_of old.rows) r)) from ≡ true
     stands = ap (λ (k : ℕ). nat_le k from) (sym (is ∙ newest-is)) ∙ le-leb stamp from below
 
     pub emptied : (before : ℕ) → before ≡ length (kept_row old.rows r) → before ≡ 0
-        → IsEntered old new (version_of old).labels old.rows (record { call = call.Repack r from; answer = answer.Done 0 0 }) → IsStep old new (call.Repack r from) (answer.Done 0 0)
+        → GainsEntry old new (version_of old).labels old.rows (record { call = call.Repack r from; answer = answer.Done 0 0 }) → IsStep old new (call.Repack r from) (answer.Done 0 0)
     emptied before is_before none h =
         let v = version_of old in
         let row : row_at v.rows r ≡ [] = row-alone old.rows r ∙ ap row_of (no_elements (kept_row old.rows r) (sym is_before ∙ none)) in
@@ -139,7 +139,7 @@ module _ {C : Type 0} (old new : Contents C) (r from : ℕ) where
           ∙ ap (λ (w : Row). packed_row old.parameters.capacity (length old.journal + 1) (members_of_row w)) (sym (row-alone old.rows r))
 
       pub packed-in : (before after : ℕ) → before ≡ length (kept_row old.rows r) → after ≡ length packed
-          → IsEntered old new (version_of old).labels (slice_set old.rows r row) (record { call = call.Repack r from; answer = answer.Done before after })
+          → GainsEntry old new (version_of old).labels (slice_set old.rows r row) (record { call = call.Repack r from; answer = answer.Done before after })
           → IsStep old new (call.Repack r from) (answer.Done before after)
       packed-in before after is_before is_after h =
           let v = version_of old in
@@ -154,7 +154,7 @@ module _ {C : Type 0} (old new : Contents C) (r from : ℕ) where
           ap (next v v.labels) (ap (slice_set v.rows r) (sym row-anew) ∙ sym (map-set row_of old.rows r row)) in
           subst (IsStep old new (call.Repack r from)) (sym told)
           (entered old new (call.Repack r from) (packed_step v r (row_at v.rows r)) v.labels (slice_set old.rows r row) (step-packed v r from stands) to
-          (subst (λ (a : Answer). IsEntered old new v.labels (slice_set old.rows r row) (record { call = call.Repack r from; answer = a })) told h)
+          (subst (λ (a : Answer). GainsEntry old new v.labels (slice_set old.rows r row) (record { call = call.Repack r from; answer = a })) told h)
           (rows-set (length old.journal + 1) old.rows r row keep))
 
 -- ---- a view of the book's history

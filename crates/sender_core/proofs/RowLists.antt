@@ -10,7 +10,7 @@ use Rattle.psi_bundle.specs.declared.member.Member.{Member}
 use Rattle.psi_bundle.specs.declared.cached.Shown.{Shown}
 use Rattle.item_slots.specs.Tags.{bins_of_row}
 use Rattle.psi_bundle.specs.Bins.{accepts, holds, bin_at, empty_bins}
-use Rattle.psi_bundle.specs.Versions.{Stamped, first_fit, joined, fresh, with_bin, placed_at, changed_at, row_at, greatest_stamp}
+use Rattle.psi_bundle.specs.Versions.{Stamped, first_fit, joined, empty_bundle, with_bin, placed_at, changed_at, row_at, greatest_stamp}
 use Rattle.sender_core.specs.declared.rows.Change.{Change}
 use Rattle.sender_core.specs.Kept.{Kept, stamped_of, row_of, rows_of, kept_row, KeepCaches}
 use Rattle.sender_core.specs.Shown.{kept_of, kept_of_row, kept_of_rows}
@@ -103,7 +103,7 @@ module _ {C : Type 0} (capacity stamp b : ℕ) (m : Member) (items : List (Shown
     pub fitted-none : row_of (kept_of_row after) ≡ first_fit capacity stamp b m (row_of (kept_of_row items))
     fitted-none =
         let found = position-map kept_of (λ (k : Kept C). accepts capacity (bin_at k.bins b) m.tag) items 0 ∙ e in
-        let to : stamped_of (kept_of new) ≡ joined stamp b m (fresh stamp) = ap stamped_of new_is ∙ ap (λ (bs : List (List Member)). record { stamp = stamp; bins = bs }) made_is in
+        let to : stamped_of (kept_of new) ≡ joined stamp b m (empty_bundle stamp) = ap stamped_of new_is ∙ ap (λ (bs : List (List Member)). record { stamp = stamp; bins = bs }) made_is in
         ap (λ (us : List (Shown C)). row_of (kept_of_row us)) after_is ∙ ap row_of (map-append kept_of items (new ∷ [])) ∙ place-none stamped_of capacity stamp b m (kept_of_row items) (kept_of new) found to
 
 -- a member in the row of a position

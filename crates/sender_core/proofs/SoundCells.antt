@@ -54,17 +54,6 @@ get-remove_other labels tag q apart =
 abbrev pub cell : List Row → ℕ → ℕ → ℕ → List Member
 cell rows r u b = bin_at (bins_at (row_at rows r) u) b
 
-pub nothing : {X : Type 0} (n i : ℕ) → get_or (replicate {A = List X} n []) i [] ≡ []
-nothing {X} n i =
-    elim (cases_lt i n) [
-      | inl lt ↦ get_or-replicate {A = List X} n i [] [] lt
-      | inr past ↦ get_or_past (replicate {A = List X} n []) i [] (omega (arith, length-replicate {A = List X} n [], past))
-    ]
-
-pub bin_at-empty : (b : ℕ) → bin_at empty_bins b ≡ []
-unfolding empty_bins
-bin_at-empty b = nothing {X = Member} bins_of_row b
-
 pub length-empty : length empty_bins ≡ bins_of_row
 unfolding empty_bins
 length-empty = length-replicate {A = List Member} bins_of_row []

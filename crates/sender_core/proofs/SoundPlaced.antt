@@ -9,11 +9,12 @@ use Rattle.std.proofs.lemmas.List.Sums.{sum_by_push}
 use Rattle.psi_bundle.specs.declared.member.Member.{Member}
 use Rattle.item_slots.specs.Tags.{bins_of_row}
 use Rattle.psi_bundle.specs.Bins.{accepts, same_tag, shares_slot, bin_at, empty_bins}
-use Rattle.psi_bundle.specs.Versions.{Row, row_at, bins_at, standing, joined, fresh, first_fit, placed_at}
+use Rattle.psi_bundle.specs.Versions.{Row, row_at, bins_at, standing, joined, empty_bundle, first_fit, placed_at}
 use Rattle.sender_core.proofs.SoundLists.{set-cases, none-any_at, one_if}
 use Rattle.item_slots.proofs.PositionLaws.{IsRising, all-weaker}
 use Rattle.sender_core.proofs.SoundPositions.{IsIn, all-at}
-use Rattle.sender_core.proofs.SoundCells.{cell, AreShaped, row-shaped, bin_at-empty, length-empty, held, standing-cons}
+use Rattle.psi_bundle.proofs.EmptyBundle.{bin_at-empty}
+use Rattle.sender_core.proofs.SoundCells.{cell, AreShaped, row-shaped, length-empty, held, standing-cons}
 
 -- ---- one bin
 
@@ -37,9 +38,9 @@ accepts-empty : (capacity : ℕ) (tag : List ℕ) → 1 ≤ capacity → accepts
 unfolding accepts
 accepts-empty capacity tag some = and_from _ _ (lt-ltb 0 capacity some) refl
 
-joins-fresh : (capacity b c : ℕ) (m : Member) → 1 ≤ capacity
+joins-empty : (capacity b c : ℕ) (m : Member) → 1 ≤ capacity
     → StaysOrJoins capacity m (c ≡ b) [] (bin_at (set empty_bins b (bin_at empty_bins b ++ m ∷ [])) c)
-joins-fresh capacity b c m some =
+joins-empty capacity b c m some =
     subst (λ before. StaysOrJoins capacity m (c ≡ b) before (bin_at (set empty_bins b (bin_at empty_bins b ++ m ∷ [])) c)) (bin_at-empty c)
     (joins-bin capacity b c m empty_bins (ap (λ (bin : List Member). accepts capacity bin m.tag) (bin_at-empty b) ∙ accepts-empty capacity m.tag some))
 
@@ -49,7 +50,7 @@ joins-fresh capacity b c m some =
 pub joins-row : (capacity stamp b : ℕ) (m : Member) (row : Row) (u c : ℕ) → 1 ≤ capacity
     → StaysOrJoins capacity m (c ≡ b) (bin_at (bins_at row u) c) (bin_at (bins_at (first_fit capacity stamp b m row) u) c)
 unfolding first_fit
-joins-row capacity stamp b m [] zero c some = joins-fresh capacity b c m some
+joins-row capacity stamp b m [] zero c some = joins-empty capacity b c m some
 joins-row capacity stamp b m [] (suc u) c some = inl refl
 joins-row capacity stamp b m (x ∷ xs) u c some = chosen (accepts capacity (bin_at x.bins b) m.tag) refl (first_fit capacity stamp b m xs) (λ w. joins-row capacity stamp b m xs w c some) u
   where
@@ -88,7 +89,7 @@ pub standing-bin : (capacity stamp b : ℕ) (m : Member) (row : Row) (tag : List
     → standing (first_fit capacity stamp b m row) b tag ≡ standing row b tag + weight m tag
 unfolding first_fit
 standing-bin capacity stamp b m [] tag h lt =
-    let whole = standing-cons (joined stamp b m (fresh stamp)) [] b tag in
+    let whole = standing-cons (joined stamp b m (empty_bundle stamp)) [] b tag in
     let more = held-joined empty_bins b m tag (omega (arith, length-empty, lt)) in
     let none : held (bin_at empty_bins b) tag ≡ 0 = ap (λ (bin : List Member). held bin tag) (bin_at-empty b) in
     omega (arith, whole, more, none)
@@ -107,7 +108,7 @@ pub standing-other_bin : (capacity stamp b c : ℕ) (m : Member) (row : Row) (ta
     → standing (first_fit capacity stamp b m row) c tag ≡ standing row c tag
 unfolding first_fit
 standing-other_bin capacity stamp b c m [] tag apart =
-    let whole = standing-cons (joined stamp b m (fresh stamp)) [] c tag in
+    let whole = standing-cons (joined stamp b m (empty_bundle stamp)) [] c tag in
     let none : held (bin_at (set empty_bins b (bin_at empty_bins b ++ m ∷ [])) c) tag ≡ 0 =
     ap (λ (bin : List Member). held bin tag) (get_or-set_other empty_bins b c (bin_at empty_bins b ++ m ∷ []) [] apart ∙ bin_at-empty c) in
     omega (arith, whole, none)

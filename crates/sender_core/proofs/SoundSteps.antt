@@ -23,7 +23,8 @@ use Rattle.sender_core.specs.Soundness.{HasRoom}
 use Rattle.sender_core.proofs.Entering.{fitted}
 use Rattle.sender_core.proofs.SoundLists.{some_value, no_value}
 use Rattle.sender_core.proofs.SoundPositions.{IsIn, IsIn-from_Contains, Contains-from_IsIn}
-use Rattle.sender_core.proofs.SoundCells.{cell, nothing, AreShaped, held, held-none, standing-same, standing-none, same_tag-apart, get-insert_same, get-insert_other, get-remove_same, get-remove_other}
+use Rattle.psi_bundle.proofs.EmptyBundle.{nothing}
+use Rattle.sender_core.proofs.SoundCells.{cell, AreShaped, held, held-none, standing-same, standing-none, same_tag-apart, get-insert_same, get-insert_other, get-remove_same, get-remove_other}
 use Rattle.sender_core.proofs.SoundPlaced.{standing_at, placed-each, shaped-placed, standing-other_tags, standing-once, joined-within, joined-apart}
 use Rattle.sender_core.proofs.SoundChanged.{SparesOthers, changed-each, shaped-changed, lengths-changed}
 use Rattle.sender_core.proofs.SoundBins.{holds-tells, without-spares, Contains-without, length-without, held-without, relabelled-spares, Contains-relabelled, length-relabelled, held-relabelled}

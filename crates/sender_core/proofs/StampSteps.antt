@@ -10,7 +10,7 @@ use Rattle.psi_bundle.specs.declared.history.Call.{Call}
 use Rattle.psi_bundle.specs.declared.history.Call.TheVariants as call
 use Rattle.item_slots.specs.Tags.{bins_of_row, positions_of}
 use Rattle.psi_bundle.specs.Bins.{accepts, holds, bin_at, relabelled, without}
-use Rattle.psi_bundle.specs.Versions.{Version, Row, Stamped, row_at, first_fit, joined, fresh, with_bin, placed_at, placed, changed_at, members_of_row, packed_row, greatest_stamp}
+use Rattle.psi_bundle.specs.Versions.{Version, Row, Stamped, row_at, first_fit, joined, empty_bundle, with_bin, placed_at, placed, changed_at, members_of_row, packed_row, greatest_stamp}
 use Rattle.psi_bundle.specs.Steps.{Step, step, fits, replace, remove, repack}
 use Rattle.sender_core.proofs.SoundLists.{set-cases}
 
@@ -58,7 +58,7 @@ module _ (stamp : ℕ) where
 
   grows-first_fit : (capacity b : ℕ) (m : Member) (row : Row) → Grows stamp row (first_fit capacity stamp b m row)
   unfolding first_fit
-  grows-first_fit capacity b m [] = record { longer = omega arith; each = one-each (joined stamp b m (fresh stamp)) refl }
+  grows-first_fit capacity b m [] = record { longer = omega arith; each = one-each (joined stamp b m (empty_bundle stamp)) refl }
   grows-first_fit capacity b m (u ∷ us) =
       grows-chosen (accepts capacity (bin_at u.bins b) m.tag) (u ∷ us) (joined stamp b m u ∷ us) (u ∷ first_fit capacity stamp b m us)
       (grows-cons u (joined stamp b m u) us us (inr refl) (grows-same us))

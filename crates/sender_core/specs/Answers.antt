@@ -10,7 +10,8 @@ use Rattle.sender_core.specs.declared.answers.RepackAnswer.{RepackAnswer}
 use Rattle.sender_core.specs.declared.answers.RepackAnswer.TheVariants as repacked
 use Rattle.sender_core.specs.declared.answers.Refusal.{Refusal}
 use Rattle.sender_core.specs.declared.answers.Refusal.TheVariants as refusal
-use Rattle.sender_core.specs.Kept.{Kept, kept_at, most_entries}
+use Rattle.psi_bundle.specs.Histories.{most_entries}
+use Rattle.sender_core.specs.Kept.{Kept, kept_at}
 
 -- the step's answer that a Put tells
 abbrev pub answer_of_put : Put → Answer

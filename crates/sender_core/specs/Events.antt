@@ -8,8 +8,8 @@ use Rattle.psi_bundle.specs.declared.history.Call.TheVariants as call
 use Rattle.psi_bundle.specs.declared.history.Answer.{Answer}
 use Rattle.psi_bundle.specs.declared.history.Entry.{Entry}
 use Rattle.psi_bundle.specs.Versions.{Version}
-use Rattle.psi_bundle.specs.Histories.{IsLegal, replay, version_at}
-use Rattle.sender_core.specs.Kept.{Contents, View, RowSight, Job, most_entries, version_of, start_of, rows_of, empty_contents, kept_row, kept_at, CacheSuits, IsAsBefore, IsStep, IsStart}
+use Rattle.psi_bundle.specs.Histories.{IsLegal, replay, version_at, most_entries}
+use Rattle.sender_core.specs.Kept.{Contents, View, RowSight, Job, version_of, start_of, rows_of, empty_contents, kept_row, kept_at, CacheSuits, IsAsBefore, IsStep, IsStart}
 use Rattle.sender_core.specs.Given.{IsViewOf, IsJobOf, row_sight_of, sight_of, bare_rows}
 use Rattle.sender_core.specs.Installs.{installed}
 
@@ -33,8 +33,8 @@ pub data Event (C : Type 0) : Type 0 where
 
 module _ {C : Type 0} where
   -- A call that adds an entry is refused and changes nothing, but for the room for entries, or it is a step of the book; what it gives stands in `given`. Where the journal is full it is refused.
-  abbrev pub IsCalled : (old given : World C) → Call → (new : World C) → Type 0
-  IsCalled old given c new =
+  abbrev pub IsStepOrRefused : (old given : World C) → Call → (new : World C) → Type 0
+  IsStepOrRefused old given c new =
       ((new ≡ record old { book = new.book }) × IsAsBefore old.book new.book)
       ⊎ ((length old.book.journal < most_entries) × ((answer : Answer) × IsStep old.book new.book c answer × (new ≡ record given { book = new.book })))
 
@@ -46,12 +46,12 @@ module _ {C : Type 0} where
   module _ (contents : C → List (List Member)) (is_under : C → List ℕ → Type 0) where
     -- one event: a view, task or snapshot that is used was given before, and a cache is for the task's bundle under the book's parameters
     abbrev pub Happens : World C → Event C → World C → Type 0
-    Happens old (put tag label) new = IsCalled old old (call.Put tag label) new
-    Happens old (drop_tag tag) new = IsCalled old old (call.Drop tag) new
-    Happens old ask new = IsCalled old (record old { snapshots = old.snapshots ++ sight_of old.book ∷ [] }) call.Ask new
+    Happens old (put tag label) new = IsStepOrRefused old old (call.Put tag label) new
+    Happens old (drop_tag tag) new = IsStepOrRefused old old (call.Drop tag) new
+    Happens old ask new = IsStepOrRefused old (record old { snapshots = old.snapshots ++ sight_of old.book ∷ [] }) call.Ask new
     Happens old (fetch_row row) new = (row < old.book.parameters.rows) × (new ≡ record old { views = old.views ++ row_sight_of old.book row ∷ [] })
     Happens old (fetch_bare skip) new = new ≡ fetched_by (slice_get (bare_rows 0 old.book.rows) (skip % length (bare_rows 0 old.book.rows))) old
-    Happens old (commit v) new = Contains old.views v × IsCalled old old (call.Repack v.row v.from) new
+    Happens old (commit v) new = Contains old.views v × IsStepOrRefused old old (call.Repack v.row v.from) new
     Happens old (install t c) new =
         Contains old.jobs t × (contents c ≡ t.bins) × is_under c (parameter_bytes old.book.parameters) × (new ≡ record old { book = installed old.book t c })
     Happens old (finish s) new = Contains old.snapshots s × (new ≡ old)

@@ -1,15 +1,15 @@
 -- What a book keeps: a version, the entries that led to it, and caches beside its bundles.
-use Rattle.std.specs.Prelude.{◌≡◌, ◌⊎◌, ℕ, ◌+◌, ◌≤◌, ◌^◌, List, [], ◌∷◌, ◌++◌, length, map, replicate, Option, None, IfSome, slice_index_or}
-use Rattle.std.specs.List.{All, sum}
+use Rattle.std.specs.Prelude.{◌≡◌, ◌⊎◌, ℕ, ◌+◌, ◌≤◌, List, [], ◌∷◌, ◌++◌, length, map, replicate, Option, None, IfSome, slice_index_or}
+use Rattle.std.specs.List.{All, flat_map, sum}
 use Rattle.std.specs.FinMap as fin
 use Rattle.psi_residue.specs.Parameters.{Parameters, parameter_bytes}
 use Rattle.psi_bundle.specs.declared.member.Member.{Member}
 use Rattle.psi_bundle.specs.declared.history.Call.{Call}
 use Rattle.psi_bundle.specs.declared.history.Answer.{Answer}
 use Rattle.psi_bundle.specs.declared.history.Entry.{Entry}
-use Rattle.psi_bundle.specs.Versions.{Version, Row, Stamped, IsSound}
+use Rattle.psi_bundle.specs.Versions.{Version, Row, Stamped, IsSound, members_of_row}
 use Rattle.psi_bundle.specs.Steps.{step}
-use Rattle.psi_bundle.specs.Histories.{IsLegal, replay}
+use Rattle.psi_bundle.specs.Histories.{IsLegal, replay, IsFitting, HasBytes, HoldBytes, most_entries}
 use Rattle.noise_ledger.specs.Verdicts.{ArePassed}
 
 -- a bundle with its stamp, and with a cache where there is one
@@ -19,14 +19,14 @@ pub record Kept (C : Type 0) : Type 0 where
   pub cache : Option C
 
 -- the labels by tag and the rows of bundles that a journal starts from
-pub record Start : Type 0 where
+pub record BookStart : Type 0 where
   pub labels : List (List ℕ × List ℕ)
   pub rows : List Row
 
 -- a book's contents: the parameters, the start, the labels by tag, the rows of bundles, the journal, and the room for entries behind it
 pub record Contents (C : Type 0) : Type 0 where
   pub parameters : Parameters
-  pub start : Start
+  pub start : BookStart
   pub labels : List (List ℕ × List ℕ)
   pub rows : List (List (Kept C))
   pub journal : List Entry
@@ -50,8 +50,16 @@ pub record Job : Type 0 where
   pub stamp : ℕ
   pub bins : List (List Member)
 
+-- the tags of the members in rows of bundles, with their labels
+abbrev pub labels_in : List Row → List (List ℕ × List ℕ)
+labels_in rows = flat_map (λ row. map (λ m. (m.1.tag, m.1.label)) (members_of_row row)) rows
+
+-- a start from these rows: its labels are those of their members
+abbrev pub start_from : List Row → BookStart
+start_from rows = record { labels = labels_in rows; rows = rows }
+
 -- no tags, no bundles
-abbrev pub empty_start : Parameters → Start
+abbrev pub empty_start : Parameters → BookStart
 empty_start p = record { labels = []; rows = replicate p.rows [] }
 
 -- a version that a journal may start from: sound, without entries, each stamp 0
@@ -59,10 +67,6 @@ pub record IsStart (v : Version) : Type 0 where
   pub sound : IsSound v
   pub no_entries : v.count ≡ 0
   pub no_stamps : All (λ row. All (λ u. u.stamp ≡ 0) row) v.rows
-
--- the most entries of a journal
-abbrev pub most_entries : ℕ
-most_entries = 2 ^ 20
 
 module _ {C : Type 0} where
   -- the bundle with its stamp alone
@@ -131,7 +135,7 @@ module _ {C : Type 0} where
     pub caches : KeepCaches (length old.journal + 1) old.rows new.rows
 
   -- What a step of a book needs: some rows and members, and numbers that are small enough to count in.
-  pub record IsReady (h : Contents C) : Type 0 where
+  pub record CanStep (h : Contents C) : Type 0 where
     pub some_rows : 1 ≤ h.parameters.rows
     pub few_rows : h.parameters.rows ≤ 4
     pub some_members : 1 ≤ h.parameters.capacity
@@ -143,6 +147,12 @@ module _ {C : Type 0} where
   -- A cache beside a bundle is for that bundle. `contents` are the bins that a cache is for, and it is for them under the parameters with these bytes.
   abbrev pub CacheSuits : (C → List (List Member)) → (C → List ℕ → Type 0) → Parameters → Kept C → Type 0
   CacheSuits contents is_under p k = IfSome k.cache (λ c. (contents c ≡ k.bins) × is_under c (parameter_bytes p))
+
+  -- Tags and labels are bytes, in the start and in the version; so they are in each call of the journal, whose labels have the set's length.
+  pub record HoldsBytes (h : Contents C) : Type 0 where
+    pub start : HoldBytes (start_of h).labels
+    pub calls : All (λ e. IsFitting h.parameters e.call × HasBytes e.call) h.journal
+    pub version : HoldBytes (version_of h).labels
 
   -- What is always true of a book.
   pub record IsConsistent (contents : C → List (List Member)) (is_under : C → List ℕ → Type 0) (h : Contents C) : Type 0 where
@@ -158,3 +168,5 @@ module _ {C : Type 0} where
     pub replayed : replay (start_of h) h.journal ≡ version_of h
     -- each cache is for the bundle where it stands, under the book's parameters
     pub caches : (r u : ℕ) → CacheSuits contents is_under h.parameters (kept_at (kept_row h.rows r) u)
+    -- tags and labels are bytes
+    pub bytes : HoldsBytes h

@@ -1,5 +1,6 @@
 //! The book.
 ghost use Rattle.std.specs.Prelude.{◌≡◌, ◌-◌, ◌≤◌, ◌<◌, ◌^◌, ◌↔◌, ℕ, length, min, IfOk, IfErr, IfSome, IsNone, IsErr, OnErr, OnOk, slice_index_or};
+ghost use Rattle.psi_bundle.specs.Histories.{AreBytes};
 
 use crate::answers::{DropAnswer, ENTRIES, Placed, Put, Refusal, RepackAnswer};
 use crate::install::{Bare, Install};
@@ -7,7 +8,7 @@ use crate::snapshot::Snapshot;
 use crate::state::State;
 use crate::task::{Task, bare_tasks};
 use crate::view::RowView;
-use item_slots::Tag;
+use item_slots::{Tag, tag_bytes};
 use noise_ledger::Params;
 use psi_bundle::{Bundle, Cached, Entry, Label, Shown};
 use std::alloc::{AllocError, Global};
@@ -17,7 +18,8 @@ use std::marker::Model;
 ///
 /// What is true of every book is `IsConsistent`: its parameters pass the check, its version is sound, its start is a
 /// sound version without entries whose stamps are all 0, its journal has at most 2^20 entries, is legal from the
-/// start and leads to the version, and each cache is for the bundle where it stands, under the book's parameters.
+/// start and leads to the version, each cache is for the bundle where it stands, under the book's parameters, and its tags and
+/// labels are bytes, also those of its start and of the calls in its journal.
 #[derive(Drop)]
 pub struct Book<C: Cached> {
     state: State<C>,
@@ -33,6 +35,11 @@ impl<C: Cached> Model for Book<C> {
 
     ghost invariant = { λ b. IsConsistent C.contents C.is_under (contents_of b.state) };
 }
+
+// Each element is a byte. It does nothing: the clause is what it is for.
+fn are_bytes(_bytes: &[u8])
+    ensures { AreBytes _bytes.now }
+{}
 
 impl<C: Cached + Drop> Book<C> {
     ghost use Rattle.std.specs.Option.{option_copied};
@@ -61,11 +68,14 @@ impl<C: Cached + Drop> Book<C> {
     }
 
     /// Takes room for so many entries more, or for all up to the limit of 2^20 entries: that many calls can then write
-    /// down their entries. Condition: at most 4096 entries. Whatever it answers, the book stays as it is otherwise.
+    /// down their entries. Condition: at most 4096 entries. It adds no entry: but for the room the book stays as it is, and
+    /// where there is no memory it stays as it is.
     pub fn reserve(&mut self, _alloc: Global, entries: u32) -> Result<(), AllocError>
         requires { entries ≤ 4096 }
-        ensures room { OnOk result (min entries (2 ^ 20 - length self.old.journal) ≤ self.new.room) }
+        ensures room { OnOk result (min entries (2 ^ 20 - length self.old.journal)
+            ≤ self.new.room) }
         ensures kept { IsAsBefore self.old self.new }
+        ensures refused { OnErr result (self.new ≡ self.old) }
     {
         self.state.reserve(entries)
     }
@@ -80,7 +90,8 @@ impl<C: Cached + Drop> Book<C> {
 
     /// The entry at a place. None exactly from the count on.
     pub fn entry(&self, k: u64) -> Option<&Entry>
-        ensures value { IfSome result (λ entry. entry.now ≡ slice_index_or self.now.journal k entry.now) }
+        ensures value { IfSome result
+            (λ entry. entry.now ≡ slice_index_or self.now.journal k entry.now) }
         ensures none { IsNone result ↔ (length self.now.journal ≤ k) }
     {
         self.state.journal.get(k as usize)
@@ -109,7 +120,9 @@ impl<C: Cached + Drop> Book<C> {
     /// cache.
     pub fn put(&mut self, alloc: Global, tag: Tag, label: Label) -> Result<Placed<Put>, Refusal>
         requires { HasLabelLength self.old.parameters label }
-        ensures stepped { IfOk result (λ placed. IsStep self.old self.new (Call.Put tag label) (answer_of_put placed.answer)) }
+        ensures stepped { IfOk result
+            (λ placed. IsStep self.old self.new (Call.Put tag label)
+            (answer_of_put placed.answer)) }
         ensures place { IfOk result (λ placed. placed.place ≡ length self.old.journal) }
         ensures full { length self.old.journal ≡ 2 ^ 20 → IsErr result }
         ensures cause { IfErr result (λ refusal. refusal ≡ cause_at (length self.old.journal)) }
@@ -117,6 +130,8 @@ impl<C: Cached + Drop> Book<C> {
         ensures full_kept { length self.old.journal ≡ 2 ^ 20 → self.new ≡ self.old }
     {
         let place = self.next_place()?;
+        are_bytes(&tag_bytes(&tag));
+        are_bytes(label.bytes());
         match self.state.put(alloc, tag, label) {
             Ok(answer) => Ok(Placed { answer, place }),
             Err(_) => Err(Refusal::NoMemory),
@@ -129,7 +144,8 @@ impl<C: Cached + Drop> Book<C> {
     /// as it is. After `NoMemory` it is as before, but for the room that it has for entries. A bundle that changes loses its
     /// cache.
     pub fn drop_tag(&mut self, alloc: Global, tag: Tag) -> Result<Placed<DropAnswer>, Refusal>
-        ensures stepped { IfOk result (λ placed. IsStep self.old self.new (Call.Drop tag) (answer_of_drop placed.answer)) }
+        ensures stepped { IfOk result
+            (λ placed. IsStep self.old self.new (Call.Drop tag) (answer_of_drop placed.answer)) }
         ensures place { IfOk result (λ placed. placed.place ≡ length self.old.journal) }
         ensures full { length self.old.journal ≡ 2 ^ 20 → IsErr result }
         ensures cause { IfErr result (λ refusal. refusal ≡ cause_at (length self.old.journal)) }
@@ -137,6 +153,7 @@ impl<C: Cached + Drop> Book<C> {
         ensures full_kept { length self.old.journal ≡ 2 ^ 20 → self.new ≡ self.old }
     {
         let place = self.next_place()?;
+        are_bytes(&tag_bytes(&tag));
         match self.state.drop_tag(alloc, tag) {
             Ok(answer) => Ok(Placed { answer, place }),
             Err(_) => Err(Refusal::NoMemory),
@@ -150,8 +167,10 @@ impl<C: Cached + Drop> Book<C> {
     /// as it is. After `NoMemory` it is as before, but for the room that it has for entries.
     pub fn ask(&mut self, alloc: Global) -> Result<Placed<Snapshot<C>>, Refusal>
         ensures stepped { OnOk result (IsStep self.old self.new Call.Ask Seen) }
-        ensures shown { IfOk result (λ placed. placed.answer ≡ record { place = length self.old.journal; rows = self.old.rows }) }
-        ensures rows { IfOk result (λ placed. length placed.answer.rows ≡ self.old.parameters.rows) }
+        ensures shown { IfOk result (λ placed. placed.answer
+            ≡ record { place = length self.old.journal; rows = self.old.rows }) }
+        ensures rows { IfOk result (λ placed. length placed.answer.rows
+            ≡ self.old.parameters.rows) }
         ensures place { IfOk result (λ placed. placed.place ≡ length self.old.journal) }
         ensures full { length self.old.journal ≡ 2 ^ 20 → IsErr result }
         ensures cause { IfErr result (λ refusal. refusal ≡ cause_at (length self.old.journal)) }
@@ -174,7 +193,8 @@ impl<C: Cached + Drop> Book<C> {
     pub fn fetch_row(&self, alloc: Global, row: u8) -> Result<RowView<C>, AllocError>
         requires { row < self.now.parameters.rows }
         ensures shown { IfOk result (λ view. view ≡ row_sight_of self.now row) }
-        ensures of_history { IfOk result (λ view. IsViewOf (start_of self.now) self.now.journal view) }
+        ensures of_history { IfOk result
+            (λ view. IsViewOf (start_of self.now) self.now.journal view) }
     {
         RowView::of(alloc, row, self.count(), self.bundles(row))
     }
@@ -194,9 +214,13 @@ impl<C: Cached + Drop> Book<C> {
         packed: Vec<Bundle>,
     ) -> Result<Placed<RepackAnswer>, Refusal>
         requires of_history { IsViewOf (start_of self.old) self.old.journal view.now }
-        requires packed { packed.items ≡ packed_bins self.old.parameters.capacity (row_of view.now.bundles) }
-        ensures stepped { IfOk result (λ placed. IsStep self.old self.new (Call.Repack view.now.row view.now.from) (answer_of_repack placed.answer)) }
-        ensures bare { IfOk result (λ placed. LeavesBare placed.answer (kept_row self.new.rows view.now.row)) }
+        requires packed { packed.items
+            ≡ packed_bins self.old.parameters.capacity (row_of view.now.bundles) }
+        ensures stepped { IfOk result
+            (λ placed. IsStep self.old self.new (Call.Repack view.now.row view.now.from)
+            (answer_of_repack placed.answer)) }
+        ensures bare { IfOk result (λ placed.
+            LeavesBare placed.answer (kept_row self.new.rows view.now.row)) }
         ensures place { IfOk result (λ placed. placed.place ≡ length self.old.journal) }
         ensures full { length self.old.journal ≡ 2 ^ 20 → IsErr result }
         ensures cause { IfErr result (λ refusal. refusal ≡ cause_at (length self.old.journal)) }
@@ -214,7 +238,8 @@ impl<C: Cached + Drop> Book<C> {
     /// Where each bundle has a cache it is all bundles instead, with their caches. It adds no entry.
     pub fn fetch_bare(&self, alloc: Global, skip: u16) -> Result<Bare<C>, AllocError>
         ensures given { IfOk result (λ bare. IsBareOf self.now skip bare) }
-        ensures of_history { IfOk result (λ bare. IsGivenOf (start_of self.now) self.now.journal bare) }
+        ensures of_history { IfOk result
+            (λ bare. IsGivenOf (start_of self.now) self.now.journal bare) }
     {
         let mut tasks = bare_tasks(alloc, &self.state.rows)?;
         if tasks.is_empty() {
@@ -241,7 +266,8 @@ impl<C: Cached + Drop> Book<C> {
         requires same_bins { C.contents cache ≡ (job_of task.now).bins }
         requires same_parameters { C.is_under cache (parameter_bytes self.old.parameters) }
         ensures put_in { OnOk result (self.new ≡ installed self.old (job_of task.now) cache) }
-        ensures told { IfOk result (λ answer. answer ≡ install_answer self.old (job_of task.now) cache) }
+        ensures told { IfOk result (λ answer. answer
+            ≡ install_answer self.old (job_of task.now) cache) }
         ensures kept { OnErr result (self.new ≡ self.old) }
     {
         self.state.install(alloc, task, cache)
@@ -249,7 +275,8 @@ impl<C: Cached + Drop> Book<C> {
 
     // The bundles as they stand, for the entry at this place.
     fn seen(&self, alloc: Global, place: u64) -> Result<Snapshot<C>, AllocError>
-        ensures shown { IfOk result (λ snapshot. snapshot ≡ record { place = place; rows = self.now.rows }) }
+        ensures shown { IfOk result (λ snapshot. snapshot
+            ≡ record { place = place; rows = self.now.rows }) }
         ensures rows { length self.now.rows ≡ self.now.parameters.rows }
     {
         Snapshot::of(alloc, place, &self.state.rows)
@@ -259,7 +286,8 @@ impl<C: Cached + Drop> Book<C> {
     fn next_place(&self) -> Result<u64, Refusal>
         ensures place { IfOk result (λ place. place ≡ length self.now.journal) }
         ensures free { OnOk result (length self.now.journal < 2 ^ 20) }
-        ensures full { IfErr result (λ refusal. (refusal ≡ cause_at (length self.now.journal)) × (length self.now.journal ≡ 2 ^ 20)) }
+        ensures full { IfErr result (λ refusal. (refusal ≡ cause_at (length self.now.journal))
+            × (length self.now.journal ≡ 2 ^ 20)) }
     {
         let place = self.state.count();
         if place < ENTRIES {

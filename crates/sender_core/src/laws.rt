@@ -1,5 +1,5 @@
 //! Laws of the steps of a set, and of a book's events.
-ghost use Rattle.sender_core.specs.Soundness.{EmptyHoldsBytes, EmptyIsSound, HistoriesKeepBytes, HistoriesKeepSetsSound, StepsKeepSetsSound};
+ghost use Rattle.sender_core.specs.Soundness.{BooksKeepBytes, EmptyHoldsBytes, EmptyIsSound, HistoriesKeepBytes, HistoriesKeepSetsSound, StepsKeepSetsSound};
 ghost use Rattle.sender_core.specs.Events.{EmptyIsFirst, Interleaved, NumbersInterleaved};
 ghost use Rattle.sender_core.specs.Stamps.{EqualStampsMeanEqualBundles, RowsStand, StampsTell};
 
@@ -20,6 +20,13 @@ pub fn steps_keep_sets_sound()
 pub fn histories_keep_bytes()
     ensures begins { EmptyHoldsBytes }
     ensures through { HistoriesKeepBytes }
+{}
+
+/// Of every book: each version of its history is sound, and its tags and labels are bytes, which are facts of its type
+/// (`count` tells them, as `IsConsistent`). So these premises of the receiver's laws hold wherever there is a book. It does
+/// nothing: the clause is what it is for.
+pub fn books_keep_bytes<C: Cached>()
+    ensures { BooksKeepBytes C.contents C.is_under }
 {}
 
 /// What stamps tell of every history from a start whose stamps are all 0: a bundle stood where it stands after as many entries

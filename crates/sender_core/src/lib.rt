@@ -23,7 +23,8 @@ pub use crate::answers::{DropAnswer, Placed, Put, Refusal, RepackAnswer};
 pub use crate::book::Book;
 pub use crate::install::{Bare, Install};
 pub use crate::laws::{
-    histories_keep_bytes, interleaved, interleaved_with, stamps_tell, steps_keep_sets_sound,
+    books_keep_bytes, histories_keep_bytes, interleaved, interleaved_with, stamps_tell,
+    steps_keep_sets_sound,
 };
 pub use crate::receipt::{Now, Receipt};
 pub use crate::snapshot::{Sight, Snapshot};

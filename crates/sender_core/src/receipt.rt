@@ -36,7 +36,15 @@ impl Model for Receipt {
 impl Receipt {
     /// The receipt of a task, at so many entries.
     pub(crate) fn of(task: &Task, entries: u64, other: Option<Now>) -> Receipt
-        ensures { let job = job_of task.now in result ≡ record { row = job.row; index = job.index; stamp = job.stamp; at = entries; instead = other } }
+        ensures { let job = job_of task.now in result
+            ≡ record {
+              row = job.row;
+              index = job.index;
+              stamp = job.stamp;
+              at = entries;
+              instead
+                  = other;
+            } }
     {
         Receipt {
             row: task.row,

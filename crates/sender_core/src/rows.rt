@@ -15,7 +15,7 @@ ghost use Rattle.sender_core.specs.UndoLogs.{LeadsBack, StillLeadsBack};
 
 use crate::undo::{Undo, append, replace, roll_back};
 use item_slots::Tag;
-use psi_bundle::{Bundle, Label, Member, Shown};
+use psi_bundle::{Bundle, Label, Member, Shown, accepting};
 use std::alloc::{AllocError, Global};
 use std::sync::Arc;
 
@@ -41,7 +41,8 @@ pub(crate) struct Edit {
 
 // A bundle that was changed: with a new stamp, and without a cache.
 fn bare<C>(alloc: Global, stamp: u64, bundle: Bundle) -> Result<Shown<C>, AllocError>
-    ensures { IfOk result (λ shown. kept_of shown ≡ record { stamp = stamp; bins = bundle; cache = None }) }
+    ensures { IfOk result (λ shown. kept_of shown
+        ≡ record { stamp = stamp; bins = bundle; cache = None }) }
 {
     Ok(Shown {
         bundle: Arc::new(alloc, bundle)?,
@@ -85,29 +86,6 @@ pub(crate) fn same_row<C: Drop>(
     Ok(copy)
 }
 
-// The first bundle of the row that accepts the tag in the bin.
-fn accepting<C>(row: &[Shown<C>], bin: u16, tag: &Tag, capacity: u16) -> Option<usize>
-    requires { bin < 819 }
-    ensures first { result ≡ position_from (λ u. accepts capacity (bin_at (arc_value u.bundle) bin) tag.now) 0 row.now }
-    ensures within { IfSome result (λ i. i < length row.now) }
-{
-    row.iter().position(
-        |u|
-            requires { bin < 819 }
-        { u.bundle.accepts(bin, tag, capacity) },
-    )
-}
-
-// A new bundle with one member.
-fn with_first(alloc: Global, bin: u16, member: Member, capacity: u16) -> Result<Bundle, AllocError>
-    requires in_range { bin < 819 }
-    requires some { 1 ≤ capacity }
-    ensures { IfOk result (λ bundle. bundle ≡ slice_set empty_bins bin (bin_at empty_bins bin ++ member ∷ [])) }
-{
-    let empty = Bundle::empty(alloc)?;
-    empty.add(alloc, bin, member, capacity)
-}
-
 // Puts a member into the row of a position by first fit.
 fn place_at<C: Drop>(
     alloc: Global,
@@ -120,10 +98,13 @@ fn place_at<C: Drop>(
 ) -> Result<(), AllocError>
     requires within { p < 819 * length rows.old.items }
     requires some { 1 ≤ capacity }
-    ensures fitted { OnOk result (rows_of (kept_of_rows rows.new.items) ≡ placed_at capacity stamp member.now (rows_of (kept_of_rows rows.old.items)) p) }
-    ensures caches { OnOk result (KeepCaches stamp (kept_of_rows rows.old.items) (kept_of_rows rows.new.items)) }
+    ensures fitted { OnOk result (rows_of (kept_of_rows rows.new.items)
+        ≡ placed_at capacity stamp member.now (rows_of (kept_of_rows rows.old.items)) p) }
+    ensures caches { OnOk result (KeepCaches stamp (kept_of_rows rows.old.items)
+        (kept_of_rows rows.new.items)) }
     ensures rows { length rows.new.items ≡ length rows.old.items }
-    ensures back { StillLeadsBack log.old.items (kept_of_rows rows.old.items) log.new.items (kept_of_rows rows.new.items) }
+    ensures back { StillLeadsBack log.old.items (kept_of_rows rows.old.items) log.new.items
+        (kept_of_rows rows.new.items) }
 {
     let (row, bin) = ((p / BINS) as usize, p % BINS);
     let Member { tag, label } = *member;
@@ -136,7 +117,7 @@ fn place_at<C: Drop>(
             replace(rows, log, row, index, shown)
         }
         None => {
-            let bundle = with_first(alloc, bin, Member { tag, label }, capacity)?;
+            let bundle = Bundle::of_one(alloc, bin, Member { tag, label })?;
             let shown = bare(alloc, stamp, bundle)?;
             append(rows, log, row, shown)
         }
@@ -155,9 +136,13 @@ fn place_each<C: Drop>(
 ) -> Result<(), AllocError>
     requires within { All (λ p. p < 819 * length rows.old.items) places.now }
     requires some { 1 ≤ capacity }
-    ensures fitted { OnOk result (rows_of (kept_of_rows rows.new.items) ≡ fold (placed_at capacity stamp member.now) (rows_of (kept_of_rows rows.old.items)) places.now) }
-    ensures caches { OnOk result (KeepCaches stamp (kept_of_rows rows.old.items) (kept_of_rows rows.new.items)) }
-    ensures back { StillLeadsBack log.old.items (kept_of_rows rows.old.items) log.new.items (kept_of_rows rows.new.items) }
+    ensures fitted { OnOk result (rows_of (kept_of_rows rows.new.items)
+        ≡ fold (placed_at capacity stamp member.now)
+        (rows_of (kept_of_rows rows.old.items)) places.now) }
+    ensures caches { OnOk result (KeepCaches stamp (kept_of_rows rows.old.items)
+        (kept_of_rows rows.new.items)) }
+    ensures back { StillLeadsBack log.old.items (kept_of_rows rows.old.items) log.new.items
+        (kept_of_rows rows.new.items) }
 {
     for p in places {
         place_at(alloc, rows, log, stamp, *p, member, capacity)?;
@@ -177,9 +162,13 @@ pub(crate) fn place_member<C: Drop>(
 ) -> Result<Vec<Undo<C>>, AllocError>
     requires within { All (λ p. p < 819 * length rows.old.items) places.now }
     requires some { 1 ≤ capacity }
-    ensures fitted { OnOk result (rows_of (kept_of_rows rows.new.items) ≡ fold (placed_at capacity stamp member.now) (rows_of (kept_of_rows rows.old.items)) places.now) }
-    ensures caches { OnOk result (KeepCaches stamp (kept_of_rows rows.old.items) (kept_of_rows rows.new.items)) }
-    ensures back { IfOk result (λ log. LeadsBack log.items (kept_of_rows rows.new.items) (kept_of_rows rows.old.items)) }
+    ensures fitted { OnOk result (rows_of (kept_of_rows rows.new.items)
+        ≡ fold (placed_at capacity stamp member.now)
+        (rows_of (kept_of_rows rows.old.items)) places.now) }
+    ensures caches { OnOk result (KeepCaches stamp (kept_of_rows rows.old.items)
+        (kept_of_rows rows.new.items)) }
+    ensures back { IfOk result (λ log.
+        LeadsBack log.items (kept_of_rows rows.new.items) (kept_of_rows rows.old.items)) }
     ensures kept { OnErr result (kept_of_rows rows.new.items ≡ kept_of_rows rows.old.items) }
 {
     let mut log = Vec::new(alloc);
@@ -194,7 +183,9 @@ pub(crate) fn place_member<C: Drop>(
 fn edited(alloc: Global, bundle: &Bundle, bin: u16, edit: &Edit) -> Result<Bundle, AllocError>
     requires in_range { bin < 819 }
     requires held { IsTrue (holds (bin_at bundle.now bin) edit.now.tag) }
-    ensures { IfOk result (λ edited. edited ≡ slice_set bundle.now bin (bin_after edit.now.change edit.now.tag (bin_at bundle.now bin))) }
+    ensures { IfOk result (λ edited. edited
+        ≡ slice_set bundle.now bin
+        (bin_after edit.now.change edit.now.tag (bin_at bundle.now bin))) }
 {
     match edit.change {
         Change::Relabel { label } => bundle.relabel(alloc, bin, &edit.tag, label),
@@ -215,9 +206,12 @@ fn change_bundle<C: Drop>(
     requires row { row < length rows.old.items }
     requires index { index < length (kept_row (kept_of_rows rows.old.items) row) }
     requires bin { bin < 819 }
-    ensures made { OnOk result (kept_of_rows rows.new.items ≡ with_changed edit.now.stamp bin edit.now.change edit.now.tag (kept_of_rows rows.old.items) row index) }
+    ensures made { OnOk result (kept_of_rows rows.new.items
+        ≡ with_changed edit.now.stamp bin edit.now.change edit.now.tag
+        (kept_of_rows rows.old.items) row index) }
     ensures rows { length rows.new.items ≡ length rows.old.items }
-    ensures back { StillLeadsBack log.old.items (kept_of_rows rows.old.items) log.new.items (kept_of_rows rows.new.items) }
+    ensures back { StillLeadsBack log.old.items (kept_of_rows rows.old.items) log.new.items
+        (kept_of_rows rows.new.items) }
 {
     let old = &rows[row][index].bundle;
     if !old.holds(bin, &edit.tag) {
@@ -237,10 +231,14 @@ fn change_at<C: Drop>(
     edit: &Edit,
 ) -> Result<(), AllocError>
     requires { p < 819 * length rows.old.items }
-    ensures made { OnOk result (rows_of (kept_of_rows rows.new.items) ≡ changed_at edit.now.stamp (bin_after edit.now.change edit.now.tag) edit.now.tag (rows_of (kept_of_rows rows.old.items)) p) }
-    ensures caches { OnOk result (KeepCaches edit.now.stamp (kept_of_rows rows.old.items) (kept_of_rows rows.new.items)) }
+    ensures made { OnOk result (rows_of (kept_of_rows rows.new.items)
+        ≡ changed_at edit.now.stamp (bin_after edit.now.change edit.now.tag) edit.now.tag
+        (rows_of (kept_of_rows rows.old.items)) p) }
+    ensures caches { OnOk result (KeepCaches edit.now.stamp (kept_of_rows rows.old.items)
+        (kept_of_rows rows.new.items)) }
     ensures rows { length rows.new.items ≡ length rows.old.items }
-    ensures back { StillLeadsBack log.old.items (kept_of_rows rows.old.items) log.new.items (kept_of_rows rows.new.items) }
+    ensures back { StillLeadsBack log.old.items (kept_of_rows rows.old.items) log.new.items
+        (kept_of_rows rows.new.items) }
 {
     let (row, bin) = ((p / BINS) as usize, p % BINS);
     for index in 0..rows[row].len() {
@@ -258,9 +256,13 @@ fn change_each<C: Drop>(
     edit: &Edit,
 ) -> Result<(), AllocError>
     requires { All (λ p. p < 819 * length rows.old.items) places.now }
-    ensures made { OnOk result (rows_of (kept_of_rows rows.new.items) ≡ fold (changed_at edit.now.stamp (bin_after edit.now.change edit.now.tag) edit.now.tag) (rows_of (kept_of_rows rows.old.items)) places.now) }
-    ensures caches { OnOk result (KeepCaches edit.now.stamp (kept_of_rows rows.old.items) (kept_of_rows rows.new.items)) }
-    ensures back { StillLeadsBack log.old.items (kept_of_rows rows.old.items) log.new.items (kept_of_rows rows.new.items) }
+    ensures made { OnOk result (rows_of (kept_of_rows rows.new.items)
+        ≡ fold (changed_at edit.now.stamp (bin_after edit.now.change edit.now.tag) edit.now.tag)
+        (rows_of (kept_of_rows rows.old.items)) places.now) }
+    ensures caches { OnOk result (KeepCaches edit.now.stamp (kept_of_rows rows.old.items)
+        (kept_of_rows rows.new.items)) }
+    ensures back { StillLeadsBack log.old.items (kept_of_rows rows.old.items) log.new.items
+        (kept_of_rows rows.new.items) }
 {
     for p in places {
         change_at(alloc, rows, log, *p, edit)?;
@@ -277,9 +279,13 @@ pub(crate) fn change_member<C: Drop>(
     edit: &Edit,
 ) -> Result<Vec<Undo<C>>, AllocError>
     requires { All (λ p. p < 819 * length rows.old.items) places.now }
-    ensures made { OnOk result (rows_of (kept_of_rows rows.new.items) ≡ fold (changed_at edit.now.stamp (bin_after edit.now.change edit.now.tag) edit.now.tag) (rows_of (kept_of_rows rows.old.items)) places.now) }
-    ensures caches { OnOk result (KeepCaches edit.now.stamp (kept_of_rows rows.old.items) (kept_of_rows rows.new.items)) }
-    ensures back { IfOk result (λ log. LeadsBack log.items (kept_of_rows rows.new.items) (kept_of_rows rows.old.items)) }
+    ensures made { OnOk result (rows_of (kept_of_rows rows.new.items)
+        ≡ fold (changed_at edit.now.stamp (bin_after edit.now.change edit.now.tag) edit.now.tag)
+        (rows_of (kept_of_rows rows.old.items)) places.now) }
+    ensures caches { OnOk result (KeepCaches edit.now.stamp (kept_of_rows rows.old.items)
+        (kept_of_rows rows.new.items)) }
+    ensures back { IfOk result (λ log.
+        LeadsBack log.items (kept_of_rows rows.new.items) (kept_of_rows rows.old.items)) }
     ensures kept { OnErr result (kept_of_rows rows.new.items ≡ kept_of_rows rows.old.items) }
 {
     let mut log = Vec::new(alloc);
@@ -332,7 +338,9 @@ pub(crate) fn stamped<C: Drop>(
 /// Puts a cache beside a bundle of a row.
 pub(crate) fn put_cache<C: Drop>(row: &mut Vec<Shown<C>>, index: usize, cache: Arc<C>)
     requires { index < length row.old.items }
-    ensures { kept_of_row row.new.items ≡ slice_set (kept_of_row row.old.items) index (record (kept_at (kept_of_row row.old.items) index) { cache = Some (arc_value cache) }) }
+    ensures { kept_of_row row.new.items
+        ≡ slice_set (kept_of_row row.old.items) index
+        (record (kept_at (kept_of_row row.old.items) index) { cache = Some (arc_value cache) }) }
 {
     let shown = &mut row[index];
     shown.cache = Some(cache);

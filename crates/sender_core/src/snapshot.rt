@@ -37,7 +37,8 @@ impl<C: Cached> Model for Snapshot<C> {
 
 // A bundle as it is seen.
 fn seen<C: Cached + Drop>(shown: &Shown<C>) -> Result<Sight<C>, AllocError>
-    ensures { IfOk result (λ sight. seen_of C.contents sight ≡ with_cached_bins C.contents (kept_of shown.now)) }
+    ensures { IfOk result (λ sight. seen_of C.contents sight
+        ≡ with_cached_bins C.contents (kept_of shown.now)) }
 {
     let stamp = shown.stamp;
     match &shown.cache {
@@ -54,7 +55,8 @@ fn seen<C: Cached + Drop>(shown: &Shown<C>) -> Result<Sight<C>, AllocError>
 
 // The bundles of a row as they are seen.
 fn sights<C: Cached + Drop>(alloc: Global, row: &[Shown<C>]) -> Result<Vec<Sight<C>>, AllocError>
-    ensures { IfOk result (λ sights. seen_row C.contents sights.items ≡ map (with_cached_bins C.contents) (kept_of_row row.now)) }
+    ensures { IfOk result (λ sights. seen_row C.contents sights.items
+        ≡ map (with_cached_bins C.contents) (kept_of_row row.now)) }
 {
     let mut sights = Vec::with_capacity(alloc, row.len())?;
     for shown in row {
@@ -72,7 +74,12 @@ impl<C: Cached + Drop> Snapshot<C> {
         place: u64,
         rows: &[Vec<Shown<C>>],
     ) -> Result<Snapshot<C>, AllocError>
-        ensures { IfOk result (λ snapshot. snapshot ≡ record { place = place; rows = map (map (with_cached_bins C.contents)) (kept_of_rows rows.now) }) }
+        ensures { IfOk result (λ snapshot. snapshot
+            ≡ record {
+              place = place;
+              rows = map (map (with_cached_bins C.contents))
+                  (kept_of_rows rows.now);
+            }) }
     {
         let mut shown = Vec::with_capacity(alloc, rows.len())?;
         for row in rows {

@@ -20,10 +20,11 @@ const PLANES: u32 = 64;
 
 const CELLS: u32 = 4096;
 
-/// The parameters, the labels by tag, the rows of bundles and the journal.
+/// The parameters, the rows of bundles that the journal starts from, the labels by tag, the rows of bundles and the journal.
 #[derive(Drop)]
 pub(crate) struct State<C> {
     pub(crate) params: Params,
+    pub(crate) first_rows: Vec<Vec<Shown<C>>>,
     pub(crate) labels: BTreeMap<Tag, Label>,
     pub(crate) rows: Vec<Vec<Shown<C>>>,
     pub(crate) journal: Vec<Entry>,
@@ -45,11 +46,12 @@ impl<C: Drop> State<C> {
     ghost use Rattle.psi_bundle.specs.Steps.{step};
     ghost use Rattle.psi_bundle.specs.declared.history.Call.TheVariants as Call;
     ghost use Rattle.noise_ledger.specs.Verdicts.{parameters_of};
-    ghost use Rattle.sender_core.specs.Kept.{version_of, empty_start, most_entries, kept_row, IsAsBefore, IsStep, IsReady};
+    ghost use Rattle.psi_bundle.specs.Histories.{most_entries};
+    ghost use Rattle.sender_core.specs.Kept.{version_of, empty_contents, kept_row, IsAsBefore, IsStep, CanStep};
     ghost use Rattle.sender_core.specs.Given.{IsPackedFor};
     ghost use Rattle.sender_core.specs.Tries.{job_of, now_at};
     ghost use Rattle.sender_core.specs.Installs.{installed, install_answer};
-    ghost use Rattle.sender_core.specs.States.{contents_of, IsEntered};
+    ghost use Rattle.sender_core.specs.States.{contents_of, GainsEntry};
     ghost use Rattle.sender_core.specs.Shown.{kept_of_row, kept_of_rows};
     ghost use Rattle.sender_core.specs.UndoLogs.{rolled_back, CanRollBack};
     ghost use Rattle.psi_bundle.specs.declared.history.Answer.TheVariants.{Removed, Seen};
@@ -57,10 +59,12 @@ impl<C: Drop> State<C> {
 
     /// No labels, no bundles, no entries.
     pub(crate) fn empty(alloc: Global, params: &Params) -> Result<State<C>, AllocError>
-        ensures { IfOk result (λ state. contents_of state ≡ record { parameters = parameters_of params.now; start = empty_start (parameters_of params.now); labels = []; rows = replicate params.now.rows []; journal = []; room = 0 }) }
+        ensures { IfOk result (λ state. contents_of state
+            ≡ empty_contents (parameters_of params.now)) }
     {
         Ok(State {
             params: *params,
+            first_rows: empty_rows(alloc, params.rows)?,
             labels: BTreeMap::new(alloc),
             rows: empty_rows(alloc, params.rows)?,
             journal: Vec::new(alloc),
@@ -77,8 +81,10 @@ impl<C: Drop> State<C> {
     /// Takes room for so many entries more, or for all up to the most that a journal has.
     pub(crate) fn reserve(&mut self, entries: u32) -> Result<(), AllocError>
         requires { length (contents_of self.old).journal ≤ most_entries }
-        ensures room { OnOk result (min entries (most_entries - length (contents_of self.old).journal) ≤ (contents_of self.new).room) }
+        ensures room { OnOk result (min entries
+            (most_entries - length (contents_of self.old).journal) ≤ (contents_of self.new).room) }
         ensures kept { IsAsBefore (contents_of self.old) (contents_of self.new) }
+        ensures refused { OnErr result (contents_of self.new ≡ contents_of self.old) }
     {
         let free = ENTRIES - self.count();
         self.journal.reserve(free.min(u64::from(entries)) as usize)
@@ -86,8 +92,10 @@ impl<C: Drop> State<C> {
 
     /// Puts a tag with its label.
     pub(crate) fn put(&mut self, alloc: Global, tag: Tag, label: Label) -> Result<Put, AllocError>
-        requires { IsReady (contents_of self.old) }
-        ensures stepped { IfOk result (λ put. IsStep (contents_of self.old) (contents_of self.new) (Call.Put tag label) (answer_of_put put)) }
+        requires { CanStep (contents_of self.old) }
+        ensures stepped { IfOk result
+            (λ put. IsStep (contents_of self.old) (contents_of self.new) (Call.Put tag label)
+            (answer_of_put put)) }
         ensures kept { OnErr result (IsAsBefore (contents_of self.old) (contents_of self.new)) }
     {
         if self.labels.contains_key(&tag) {
@@ -99,9 +107,11 @@ impl<C: Drop> State<C> {
 
     // Gives a tag of the map another label.
     fn replace(&mut self, alloc: Global, tag: Tag, label: Label) -> Result<Put, AllocError>
-        requires ready { IsReady (contents_of self.old) }
+        requires ready { CanStep (contents_of self.old) }
         requires present { is_some (fin.get (version_of (contents_of self.old)).labels tag) ≡ true }
-        ensures stepped { IfOk result (λ put. IsStep (contents_of self.old) (contents_of self.new) (Call.Put tag label) (answer_of_put put)) }
+        ensures stepped { IfOk result
+            (λ put. IsStep (contents_of self.old) (contents_of self.new) (Call.Put tag label)
+            (answer_of_put put)) }
         ensures kept { OnErr result (IsAsBefore (contents_of self.old) (contents_of self.new)) }
     {
         self.journal.reserve(1)?;
@@ -118,9 +128,11 @@ impl<C: Drop> State<C> {
 
     // Adds a tag that is not in the map, where the limits allow it.
     fn add(&mut self, alloc: Global, tag: Tag, label: Label) -> Result<Put, AllocError>
-        requires ready { IsReady (contents_of self.old) }
+        requires ready { CanStep (contents_of self.old) }
         requires absent { is_some (fin.get (version_of (contents_of self.old)).labels tag) ≡ false }
-        ensures stepped { IfOk result (λ put. IsStep (contents_of self.old) (contents_of self.new) (Call.Put tag label) (answer_of_put put)) }
+        ensures stepped { IfOk result
+            (λ put. IsStep (contents_of self.old) (contents_of self.new) (Call.Put tag label)
+            (answer_of_put put)) }
         ensures kept { OnErr result (IsAsBefore (contents_of self.old) (contents_of self.new)) }
     {
         self.journal.reserve(1)?;
@@ -148,8 +160,10 @@ impl<C: Drop> State<C> {
 
     /// Takes a tag out.
     pub(crate) fn drop_tag(&mut self, alloc: Global, tag: Tag) -> Result<DropAnswer, AllocError>
-        requires { IsReady (contents_of self.old) }
-        ensures stepped { IfOk result (λ dropped. IsStep (contents_of self.old) (contents_of self.new) (Call.Drop tag) (answer_of_drop dropped)) }
+        requires { CanStep (contents_of self.old) }
+        ensures stepped { IfOk result
+            (λ dropped. IsStep (contents_of self.old) (contents_of self.new) (Call.Drop tag)
+            (answer_of_drop dropped)) }
         ensures kept { OnErr result (IsAsBefore (contents_of self.old) (contents_of self.new)) }
     {
         if self.labels.contains_key(&tag) {
@@ -163,7 +177,8 @@ impl<C: Drop> State<C> {
 
     /// Adds the entry of a query, which changes nothing else.
     pub(crate) fn ask(&mut self) -> Result<(), AllocError>
-        ensures stepped { OnOk result (IsStep (contents_of self.old) (contents_of self.new) Call.Ask Seen) }
+        ensures stepped { OnOk result
+            (IsStep (contents_of self.old) (contents_of self.new) Call.Ask Seen) }
         ensures kept { OnErr result (IsAsBefore (contents_of self.old) (contents_of self.new)) }
     {
         self.note(Call::Ask, Answer::Seen)
@@ -171,9 +186,10 @@ impl<C: Drop> State<C> {
 
     // Takes a tag of the map out of it, and out of the bundles.
     fn remove(&mut self, alloc: Global, tag: Tag) -> Result<(), AllocError>
-        requires ready { IsReady (contents_of self.old) }
+        requires ready { CanStep (contents_of self.old) }
         requires present { is_some (fin.get (version_of (contents_of self.old)).labels tag) ≡ true }
-        ensures stepped { OnOk result (IsStep (contents_of self.old) (contents_of self.new) (Call.Drop tag) Removed) }
+        ensures stepped { OnOk result
+            (IsStep (contents_of self.old) (contents_of self.new) (Call.Drop tag) Removed) }
         ensures kept { OnErr result (IsAsBefore (contents_of self.old) (contents_of self.new)) }
     {
         self.journal.reserve(1)?;
@@ -191,7 +207,9 @@ impl<C: Drop> State<C> {
 
     // Adds the entry of a call that changes nothing.
     fn note(&mut self, call: Call, answer: Answer) -> Result<(), AllocError>
-        ensures noted { OnOk result (IsEntered (contents_of self.old) (contents_of self.new) (version_of (contents_of self.old)).labels (contents_of self.old).rows (record { call = call; answer = answer })) }
+        ensures noted { OnOk result (GainsEntry (contents_of self.old) (contents_of self.new)
+            (version_of (contents_of self.old)).labels (contents_of self.old).rows
+            (record { call = call; answer = answer })) }
         ensures kept { OnErr result (IsAsBefore (contents_of self.old) (contents_of self.new)) }
     {
         self.journal.push(Entry { call, answer })?;
@@ -201,7 +219,9 @@ impl<C: Drop> State<C> {
     // Adds an entry, for which there is room.
     fn write(&mut self, call: Call, answer: Answer)
         requires { 1 ≤ (contents_of self.old).room }
-        ensures { IsEntered (contents_of self.old) (contents_of self.new) (version_of (contents_of self.old)).labels (contents_of self.old).rows (record { call = call; answer = answer }) }
+        ensures { GainsEntry (contents_of self.old) (contents_of self.new)
+            (version_of (contents_of self.old)).labels (contents_of self.old).rows
+            (record { call = call; answer = answer }) }
     {
         self.journal.push_reserved(Entry { call, answer });
     }
@@ -217,8 +237,13 @@ impl<C: Drop> State<C> {
     ) -> Result<(), AllocError>
         requires room { 1 ≤ (contents_of self.old).room }
         requires can { CanRollBack log.items (contents_of self.old).rows }
-        ensures entered { OnOk result (IsEntered (contents_of self.old) (contents_of self.new) (fin.insert (version_of (contents_of self.old)).labels tag label) (contents_of self.old).rows (record { call = Call.Put tag label; answer = answer })) }
-        ensures undone { OnErr result (contents_of self.new ≡ record (contents_of self.old) { rows = rolled_back log.items (contents_of self.old).rows }) }
+        ensures entered { OnOk result
+            (GainsEntry (contents_of self.old) (contents_of self.new)
+            (fin.insert (version_of (contents_of self.old)).labels tag label)
+            (contents_of self.old).rows (record { call = Call.Put tag label; answer = answer })) }
+        ensures undone { OnErr result
+            (contents_of self.new ≡ record
+            (contents_of self.old) { rows = rolled_back log.items (contents_of self.old).rows }) }
     {
         if let Err(refused) = self.labels.insert(tag, label) {
             roll_back(&mut self.rows, log);
@@ -236,11 +261,14 @@ impl<C: Drop> State<C> {
         from: u64,
         packed: Vec<Bundle>,
     ) -> Result<RepackAnswer, AllocError>
-        requires ready { IsReady (contents_of self.old) }
+        requires ready { CanStep (contents_of self.old) }
         requires in_range { row < (contents_of self.old).parameters.rows }
         requires packed { IsPackedFor (contents_of self.old) row from packed.items }
-        ensures stepped { IfOk result (λ answer. IsStep (contents_of self.old) (contents_of self.new) (Call.Repack row from) (answer_of_repack answer)) }
-        ensures bare { IfOk result (λ answer. LeavesBare answer (kept_row (contents_of self.new).rows row)) }
+        ensures stepped { IfOk result
+            (λ answer. IsStep (contents_of self.old) (contents_of self.new)
+            (Call.Repack row from) (answer_of_repack answer)) }
+        ensures bare { IfOk result (λ answer.
+            LeavesBare answer (kept_row (contents_of self.new).rows row)) }
         ensures kept { OnErr result (IsAsBefore (contents_of self.old) (contents_of self.new)) }
     {
         let stamp = newest(&self.rows[row as usize]);
@@ -269,7 +297,11 @@ impl<C: Drop> State<C> {
         answer: Answer,
     ) -> Result<(), AllocError>
         requires { row < length (contents_of self.old).rows }
-        ensures entered { OnOk result (IsEntered (contents_of self.old) (contents_of self.new) (version_of (contents_of self.old)).labels (slice_set (contents_of self.old).rows row (kept_of_row bundles.items)) (record { call = Call.Repack row from; answer = answer })) }
+        ensures entered { OnOk result
+            (GainsEntry (contents_of self.old) (contents_of self.new)
+            (version_of (contents_of self.old)).labels
+            (slice_set (contents_of self.old).rows row (kept_of_row bundles.items))
+            (record { call = Call.Repack row from; answer = answer })) }
         ensures kept { OnErr result (IsAsBefore (contents_of self.old) (contents_of self.new)) }
     {
         self.journal.reserve(1)?;
@@ -283,10 +315,11 @@ impl<C: Drop> State<C> {
 
     // What a row has in place of a task's bundle.
     fn now_at(&self, task: &Task) -> Option<Now>
-        requires ready { IsReady (contents_of self.now) }
+        requires ready { CanStep (contents_of self.now) }
         requires in_range { task.now.row < (contents_of self.now).parameters.rows }
         ensures now { result ≡ now_at (contents_of self.now).rows (job_of task.now) }
-        ensures there { IsNone result → task.now.index < length (kept_row (contents_of self.now).rows task.now.row) }
+        ensures there { IsNone result →
+            task.now.index < length (kept_row (contents_of self.now).rows task.now.row) }
     {
         let row = &self.rows[task.row as usize];
         match row.get(task.index as usize) {
@@ -310,10 +343,12 @@ impl<C: Drop> State<C> {
         task: &Task,
         cache: C,
     ) -> Result<Install<C>, AllocError>
-        requires ready { IsReady (contents_of self.old) }
+        requires ready { CanStep (contents_of self.old) }
         requires in_range { task.now.row < (contents_of self.old).parameters.rows }
-        ensures put_in { OnOk result (contents_of self.new ≡ installed (contents_of self.old) (job_of task.now) cache) }
-        ensures told { IfOk result (λ answer. answer ≡ install_answer (contents_of self.old) (job_of task.now) cache) }
+        ensures put_in { OnOk result (contents_of self.new
+            ≡ installed (contents_of self.old) (job_of task.now) cache) }
+        ensures told { IfOk result (λ answer. answer
+            ≡ install_answer (contents_of self.old) (job_of task.now) cache) }
         ensures kept { OnErr result (contents_of self.new ≡ contents_of self.old) }
     {
         let now = self.now_at(task);

@@ -29,7 +29,8 @@ fn push_bare<C: Drop>(
     index: u16,
     shown: &Shown<C>,
 ) -> Result<(), AllocError>
-    ensures { OnOk result (map job_of tasks.new.items ≡ map job_of tasks.old.items ++ bare_at row index (kept_of shown.now)) }
+    ensures { OnOk result (map job_of tasks.new.items ≡ map job_of tasks.old.items
+        ++ bare_at row index (kept_of shown.now)) }
 {
     if shown.cache.is_none() {
         tasks.push(Task {
@@ -45,7 +46,8 @@ fn push_bare<C: Drop>(
 // Adds the tasks of a row's bundles that have no cache.
 fn push_row<C: Drop>(tasks: &mut Vec<Task>, row: u8, shown: &[Shown<C>]) -> Result<(), AllocError>
     requires { length shown.now ≤ 64 }
-    ensures { OnOk result (map job_of tasks.new.items ≡ map job_of tasks.old.items ++ bare_row row 0 (kept_of_row shown.now)) }
+    ensures { OnOk result (map job_of tasks.new.items ≡ map job_of tasks.old.items
+        ++ bare_row row 0 (kept_of_row shown.now)) }
 {
     for (index, bundle) in shown.iter().enumerate() {
         push_bare(tasks, row, index as u16, bundle)?;

@@ -51,8 +51,11 @@ fn open_book(alloc: Global, capacity: u16) -> Option<Book<NoCache>>
 fn put(book: &mut Book<NoCache>, alloc: Global, tag: Tag) -> Result<(Put, u64), Refusal>
     requires { book.old.parameters.units ≡ 0 }
     ensures parameters { book.new.parameters ≡ book.old.parameters }
-    ensures jobs { (t : Job) → IsJobOf (start_of book.old) book.old.journal t → IsJobOf (start_of book.new) book.new.journal t }
-    ensures views { (v : RowSight (List (List Member))) → IsViewOf (start_of book.old) book.old.journal v → IsViewOf (start_of book.new) book.new.journal v }
+    ensures jobs { (t : Job) → IsJobOf (start_of book.old) book.old.journal t →
+        IsJobOf (start_of book.new) book.new.journal t }
+    ensures views { (v : RowSight (List (List Member))) →
+        IsViewOf (start_of book.old) book.old.journal v →
+        IsViewOf (start_of book.new) book.new.journal v }
 {
     let Some(label) = Label::of(b"") else {
         return Err(Refusal::NoMemory);
@@ -66,7 +69,9 @@ fn put(book: &mut Book<NoCache>, alloc: Global, tag: Tag) -> Result<(Put, u64), 
 // Drops a tag, and answers with the entry's place.
 fn drop_tag(book: &mut Book<NoCache>, alloc: Global, tag: Tag) -> Result<(DropAnswer, u64), Refusal>
     ensures parameters { book.new.parameters ≡ book.old.parameters }
-    ensures views { (v : RowSight (List (List Member))) → IsViewOf (start_of book.old) book.old.journal v → IsViewOf (start_of book.new) book.new.journal v }
+    ensures views { (v : RowSight (List (List Member))) →
+        IsViewOf (start_of book.old) book.old.journal v →
+        IsViewOf (start_of book.new) book.new.journal v }
 {
     match book.drop_tag(alloc, tag) {
         Ok(placed) => Ok((placed.answer, placed.place)),
@@ -231,7 +236,9 @@ fn repack_nothing(
     requires of_history { IsViewOf (start_of book.old) book.old.journal view.now }
     requires empty { view.now.bundles ≡ [] }
     ensures parameters { book.new.parameters ≡ book.old.parameters }
-    ensures views { (v : RowSight (List (List Member))) → IsViewOf (start_of book.old) book.old.journal v → IsViewOf (start_of book.new) book.new.journal v }
+    ensures views { (v : RowSight (List (List Member))) →
+        IsViewOf (start_of book.old) book.old.journal v →
+        IsViewOf (start_of book.new) book.new.journal v }
 {
     match book.repack(alloc, view, Vec::new(alloc)) {
         Ok(placed) => Ok((placed.answer, placed.place)),
@@ -242,7 +249,8 @@ fn repack_nothing(
 // The view of the first row.
 fn view_row(book: &Book<NoCache>, alloc: Global) -> Option<RowView<NoCache>>
     requires { 0 < book.now.parameters.rows }
-    ensures of_history { IfSome result (λ view. IsViewOf (start_of book.now) book.now.journal view) }
+    ensures of_history { IfSome result
+        (λ view. IsViewOf (start_of book.now) book.now.journal view) }
     ensures bundles { IfSome result (λ view. view.bundles ≡ kept_row book.now.rows 0) }
 {
     book.fetch_row(alloc, 0).ok()
@@ -272,7 +280,9 @@ fn a_row_without_bundles_stays_so(rt: HostRuntime) {
 // Drops a tag 4096 times, for which there is room, and answers whether it was absent each time.
 fn drop_often(book: &mut Book<NoCache>, alloc: Global, tag: Tag) -> bool
     ensures parameters { book.new.parameters ≡ book.old.parameters }
-    ensures views { (v : RowSight (List (List Member))) → IsViewOf (start_of book.old) book.old.journal v → IsViewOf (start_of book.new) book.new.journal v }
+    ensures views { (v : RowSight (List (List Member))) →
+        IsViewOf (start_of book.old) book.old.journal v →
+        IsViewOf (start_of book.new) book.new.journal v }
 {
     let mut absent = book.reserve(alloc, 4096).is_ok();
     for _made in 0..4096u32 {
@@ -284,7 +294,9 @@ fn drop_often(book: &mut Book<NoCache>, alloc: Global, tag: Tag) -> bool
 // Drops a tag 2^20 times, and answers whether it was absent each time.
 fn drop_all_along(book: &mut Book<NoCache>, alloc: Global, tag: Tag) -> bool
     ensures parameters { book.new.parameters ≡ book.old.parameters }
-    ensures views { (v : RowSight (List (List Member))) → IsViewOf (start_of book.old) book.old.journal v → IsViewOf (start_of book.new) book.new.journal v }
+    ensures views { (v : RowSight (List (List Member))) →
+        IsViewOf (start_of book.old) book.old.journal v →
+        IsViewOf (start_of book.new) book.new.journal v }
 {
     let mut absent = true;
     for _made in 0..256u32 {

@@ -26,9 +26,13 @@ pub(crate) fn replace<C: Drop>(
 ) -> Result<(), AllocError>
     requires row { row < length rows.old.items }
     requires index { index < length (kept_row (kept_of_rows rows.old.items) row) }
-    ensures replaced { OnOk result (kept_of_rows rows.new.items ≡ slice_set (kept_of_rows rows.old.items) row (slice_set (kept_row (kept_of_rows rows.old.items) row) index (kept_of shown))) }
+    ensures replaced { OnOk result
+        (kept_of_rows rows.new.items
+        ≡ slice_set (kept_of_rows rows.old.items) row
+        (slice_set (kept_row (kept_of_rows rows.old.items) row) index (kept_of shown))) }
     ensures rows { length rows.new.items ≡ length rows.old.items }
-    ensures back { StillLeadsBack log.old.items (kept_of_rows rows.old.items) log.new.items (kept_of_rows rows.new.items) }
+    ensures back { StillLeadsBack log.old.items (kept_of_rows rows.old.items) log.new.items
+        (kept_of_rows rows.new.items) }
 {
     log.reserve(1)?;
     let bundles = &mut rows[row];
@@ -49,9 +53,13 @@ pub(crate) fn append<C: Drop>(
     shown: Shown<C>,
 ) -> Result<(), AllocError>
     requires { row < length rows.old.items }
-    ensures appended { OnOk result (kept_of_rows rows.new.items ≡ slice_set (kept_of_rows rows.old.items) row (kept_row (kept_of_rows rows.old.items) row ++ kept_of shown ∷ [])) }
+    ensures appended { OnOk result
+        (kept_of_rows rows.new.items
+        ≡ slice_set (kept_of_rows rows.old.items) row
+        (kept_row (kept_of_rows rows.old.items) row ++ kept_of shown ∷ [])) }
     ensures rows { length rows.new.items ≡ length rows.old.items }
-    ensures back { StillLeadsBack log.old.items (kept_of_rows rows.old.items) log.new.items (kept_of_rows rows.new.items) }
+    ensures back { StillLeadsBack log.old.items (kept_of_rows rows.old.items) log.new.items
+        (kept_of_rows rows.new.items) }
 {
     log.reserve(1)?;
     let bundles = &mut rows[row];

@@ -35,7 +35,8 @@ impl<C: Drop> RowView<C> {
         entries: u64,
         shown: &[Shown<C>],
     ) -> Result<RowView<C>, AllocError>
-        ensures { IfOk result (λ view. view ≡ record { row = row; from = entries; bundles = kept_of_row shown.now }) }
+        ensures { IfOk result (λ view. view
+            ≡ record { row = row; from = entries; bundles = kept_of_row shown.now }) }
     {
         let shown = same_row(alloc, shown)?;
         Ok(RowView {

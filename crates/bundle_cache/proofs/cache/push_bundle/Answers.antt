@@ -13,7 +13,7 @@ pub push_columns-requires-clause-cells : goal.push_columns-requires-clause-cells
 push_columns-requires-clause-cells g c κs within =
     let p = parameters_of c.args.params.now in
     let few = c.requires.passed.ranges.few_members in
-    cells-ready p c.args.bundle.now c.loop-plane.plane (c.from-count.result + 1) c.deref.result.now (omega (arith, c.from-count.ensures)) (omega (arith, few, c.from-count.ensures))
+    cells-ready p c.args.bundle.now c.loop-plane.plane (c.coefficients-count.result) c.deref.result.now (omega (arith, c.coefficients-count.ensures.number)) (omega (arith, few, c.coefficients-count.ensures.number))
     (subst (λ (columns : List ℕ). AreColumns p c.args.bundle.now c.loop-plane.plane columns) (sym c.deref.ensures.value) c.in_ok-columns.ensures)
 
 pub push_columns-requires-clause-room : goal.push_columns-requires-clause-room
@@ -23,11 +23,11 @@ push_columns-requires-clause-room g c =
     let held : length c.loop-plane.block.held ≡ c.loop-plane.plane * (c.args.params.now.capacity + 1) = ap (λ (b : Block). length b.held) c.loop-plane.invariant ∙ length-map-range_with_len f 0 (c.loop-plane.plane * (c.args.params.now.capacity + 1)) in
     let rows : c.loop-plane.block.rows ≡ c.args.block.now.rows = ap (λ (b : Block). b.rows) c.loop-plane.invariant in
     let within = mul-add-lt c.loop-plane.plane (c.args.params.now.capacity + 1) c.args.params.now.capacity (1 + c.args.params.now.units) (omega (arith, c.loop-plane-test.true)) (omega arith) in
-    omega (arith, held, rows, within, c.requires.room, c.from-count.ensures)
+    omega (arith, held, rows, within, c.requires.room, c.coefficients-count.ensures.number)
 
 pub loop-plane-preserved : goal.loop-plane-preserved
 loop-plane-preserved g c =
     let p = parameters_of c.args.params.now in
-    planes-more p c.args.bundle.now c.args.block.now c.loop-plane.block c.push_columns.new.block c.loop-plane.plane (c.from-count.result + 1) c.deref.result.now (omega (arith, c.from-count.ensures))
+    planes-more p c.args.bundle.now c.args.block.now c.loop-plane.block c.push_columns.new.block c.loop-plane.plane (c.coefficients-count.result) c.deref.result.now (omega (arith, c.coefficients-count.ensures.number))
     (subst (λ (columns : List ℕ). AreColumns p c.args.bundle.now c.loop-plane.plane columns) (sym c.deref.ensures.value) c.in_ok-columns.ensures)
     c.loop-plane.invariant c.in_ok-push_columns.ensures.rows

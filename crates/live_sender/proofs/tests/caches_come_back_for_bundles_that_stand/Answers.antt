@@ -1,7 +1,8 @@
 use Rattle.std.proofs.Common.{◌≡◌, ◌∙◌, Some, sym, rules}
 use Rattle.psi_turnstile.specs.Counting.{IsPrefix}
 use Rattle.live_sender.specs.Histories.{first_version}
-use Rattle.live_sender.proofs.Samples.{prefix-then, view-here, task-here, task-given}
+use Rattle.live_sender.proofs.Prefixes.{prefix-then}
+use Rattle.live_sender.proofs.Samples.{view-here, task-here, task-given}
 use Rattle.live_sender.proofs.tests.caches_come_back_for_bundles_that_stand.Goals as goal
 
 pub bring-stale-requires-clause-of_history : goal.bring-stale-requires-clause-of_history

@@ -1,5 +1,6 @@
 use Rattle.std.proofs.Common.{◌<◌, sym, subst, length}
-use Rattle.sender_core.specs.Kept.{Contents, most_entries}
+use Rattle.psi_bundle.specs.Histories.{most_entries}
+use Rattle.sender_core.specs.Kept.{Contents}
 use Rattle.sender_core.specs.States.{contents_of}
 use Rattle.psi_bundle.specs.declared.history.Call.TheVariants as Call
 use Rattle.psi_bundle.specs.declared.history.Answer.TheVariants.{Seen}
@@ -10,4 +11,4 @@ pub invariant_of-self : goal.invariant_of-self
 invariant_of-self g c =
     let free = subst (λ (h : Contents g.row.C.Denot). length h.journal < most_entries) (sym c.self.view_is) c.in_ok-place.ensures.free in
     consistent-done g.C.Cached.contents g.C.Cached.is_under c.ask.result (contents_of c.self.inside.state) (contents_of c.ask.new.self) Call.Ask Seen c.self.invariant free
-    tt c.ask.ensures.stepped c.ask.ensures.kept
+    (tt, tt) c.ask.ensures.stepped c.ask.ensures.kept

@@ -1,7 +1,8 @@
 use Rattle.std.proofs.Common.{◌<◌, ◌≡◌, sym, subst, length, ℕ}
 use Rattle.psi_bundle.specs.declared.history.Call.TheVariants as Call
 use Rattle.psi_bundle.specs.Shows.{packed_bins}
-use Rattle.sender_core.specs.Kept.{Contents, most_entries, start_of, row_of}
+use Rattle.psi_bundle.specs.Histories.{most_entries}
+use Rattle.sender_core.specs.Kept.{Contents, start_of, row_of}
 use Rattle.sender_core.specs.States.{contents_of}
 use Rattle.sender_core.specs.Answers.{answer_of_repack}
 use Rattle.sender_core.specs.Given.{IsViewOf, IsPackedFor}
@@ -26,4 +27,4 @@ pub invariant_of-self : goal.invariant_of-self
 invariant_of-self g c =
     let free = subst (λ (h : Contents g.row.C.Denot). length h.journal < most_entries) (sym c.self.view_is) c.in_ok-place.ensures.free in
     consistent-either g.C.Cached.contents g.C.Cached.is_under c.repack.result (contents_of c.self.inside.state) (contents_of c.repack.new.self) (Call.Repack c.row.result c.from.result) answer_of_repack
-    c.self.invariant free tt c.repack.ensures.stepped c.repack.ensures.kept
+    c.self.invariant free (tt, tt) c.repack.ensures.stepped c.repack.ensures.kept

@@ -9,6 +9,6 @@ returns-clause-entered g c = record {
   parameters = refl;
   start = refl;
   labelled = refl;
-  bundled = kept_rows-set c.args.self.now.rows.items c.args.row c.args.bundles;
+  stands = kept_rows-set c.args.self.now.rows.items c.args.row c.args.bundles;
   written = c.push_reserved.ensures.items ∙ ap (λ (es : List Entry). es ++ record { call = Call.Repack c.args.row c.args.from; answer = c.args.answer } ∷ []) c.reserve.ensures.items;
 }

@@ -60,11 +60,11 @@ returns-then-before-eq0-clause-bare g c =
     let within : c.args.row < length rows = omega (arith, c.requires.in_range, c.requires.ready.each_row, length-map rows (λ row. kept_of_row row.items)) in
     let row = c.index-2.result.now in
     let before : c.len-before.result ≡ length (kept_row (kept_of_rows rows) c.args.row) = omega (arith, c.len-before.ensures, row.ok.0, length-read rows c.args.row row within c.index-2.ensures) in
-    bare-empty (kept_of_rows rows) (contents_of c.note-then-before-eq0.new.self).rows c.args.row c.in_ok-note-2.ensures.noted.bundled (sym before ∙ c.if-before-eq0.true)
+    bare-empty (kept_of_rows rows) (contents_of c.note-then-before-eq0.new.self).rows c.args.row c.in_ok-note-2.ensures.noted.stands (sym before ∙ c.if-before-eq0.true)
 
 pub returns-clause-bare : goal.returns-clause-bare
 returns-clause-bare g c =
     let rows = c.args.self.now.rows.items in
     let within : c.args.row < length (kept_of_rows rows) = omega (arith, c.requires.in_range, c.requires.ready.each_row) in
     bare-packed (kept_of_rows rows) (contents_of c.put_in.new.self).rows c.args.row (c.count.result + 1) (kept_of_row c.in_ok-bundles.bundles.items) c.args.packed.items within
-    c.in_ok-put_in.ensures.entered.bundled c.in_ok-bundles.ensures
+    c.in_ok-put_in.ensures.entered.stands c.in_ok-bundles.ensures
