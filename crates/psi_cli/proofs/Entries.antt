@@ -1,5 +1,5 @@
 -- Each entry of a history that replies serve is a call that the set takes.
-use Rattle.std.proofs.Common.{◌≡◌, ℕ, zero, suc, ◌+◌, ◌-◌, ◌<◌, ◌≤◌, Bool, true, false, nat_eq, nat_lt, List, [], ◌∷◌, length, Option, None, Some, slice_get, get_or, refl, sym, ap, ◌∙◌, subst, arith, inl, inr, add-one}
+use Rattle.std.proofs.Common.{◌≡◌, ℕ, zero, suc, ◌+◌, ◌-◌, ◌<◌, ◌≤◌, Bool, true, false, nat_eq, nat_lt, List, [], ◌∷◌, length, Option, None, Some, slice_get, get_or, take, get_or-take, refl, sym, ap, ◌∙◌, subst, arith, inl, inr, add-one}
 use Rattle.std.specs.List.{All, AllByRecursion, cons_option, range_with_len}
 use Rattle.std.specs.List.Sorted.{IsPermutation}
 use Rattle.std.specs.Option.{option_map}
@@ -13,7 +13,7 @@ use Rattle.psi_residue.specs.Parameters.{Parameters}
 use Rattle.psi_bundle.specs.declared.history.Call.{Call}
 use Rattle.psi_bundle.specs.declared.history.Entry.{Entry}
 use Rattle.psi_bundle.specs.Histories.{HasBytes, IsFitting}
-use Rattle.psi_bundle.specs.Versions.{empty_version}
+use Rattle.psi_bundle.specs.Versions.{Version}
 use Rattle.psi_frames.specs.declared.request.Request.{Request}
 use Rattle.psi_frames.specs.Requests.{call_of}
 use Rattle.psi_frames.specs.Served.{Exchange, IsRecorded, IsServed, Sent, all_places, exchanges, from_or_zero, place_of, places_in, places_of_round, requests_of}
@@ -73,23 +73,23 @@ in_range P base n j h low high =
     let at : get_or (range_with_len base n) (j - base) 0 ≡ j = get_or-range_with_len base n (j - base) 0 (omega arith) ∙ omega arith in
     subst P at (h (j - base) 0 (omega (arith, length-range_with_len base n)))
 
--- where the places of each round follow on from 0, what holds of each place of the exchanges holds of every number below the places of
--- the first rounds
-module _ (P : ℕ → Type 0) (es : List Exchange) (few : ℕ → ℕ) (h : AllByRecursion (λ e. (x : ℕ) → place_of e.reply ≡ Some x → P x) es) where
-  pub first-rounds : (n rounds : ℕ) → ((k : ℕ) → k < rounds → IsPermutation (places_of_round k es) (range_with_len (0 + length (before k es)) (few k))) → n ≤ rounds
-      → (j : ℕ) → j < length (before n es) → P j
-  first-rounds zero rounds follow le j lt = absurd (omega (arith, ap length (before-none es)))
+-- where the places of each round follow on from a number below which it holds, what holds of each place of the exchanges holds of every
+-- number up to the last place of the first rounds
+module _ (P : ℕ → Type 0) (es : List Exchange) (few : ℕ → ℕ) (start : ℕ) (low : (j : ℕ) → j < start → P j) (h : AllByRecursion (λ e. (x : ℕ) → place_of e.reply ≡ Some x → P x) es) where
+  pub first-rounds : (n rounds : ℕ) → ((k : ℕ) → k < rounds → IsPermutation (places_of_round k es) (range_with_len (start + length (before k es)) (few k))) → n ≤ rounds
+      → (j : ℕ) → j < start + length (before n es) → P j
+  first-rounds zero rounds follow le j lt = low j (omega (arith, ap length (before-none es), lt))
   first-rounds (suc n) rounds follow le j lt =
-      let base = length (before n es) in
+      let base = start + length (before n es) in
       let moves = follow n (omega arith) in
-      let size : length (places_of_round n es) ≡ few n = sym (length_permutation (places_of_round n es) (range_with_len (0 + base) (few n)) moves) ∙ length-range_with_len (0 + base) (few n) in
+      let size : length (places_of_round n es) ≡ few n = sym (length_permutation (places_of_round n es) (range_with_len base (few n)) moves) ∙ length-range_with_len base (few n) in
       let more = before-more n es in
-      let lt_more : j < length (before (n + 1) es) = rw add-one lt in
+      let lt_more : j < start + length (before (n + 1) es) = rw add-one lt in
       elim (cases_lt j base) [
         | inl below ↦ first-rounds n rounds follow (omega arith) j below
         | inr from ↦
-            let all = All-permutation P (places_of_round n es) (range_with_len (0 + base) (few n)) moves (All-from_recursion P (places_of_round n es) (each-places P (nat_eq n) es h)) in
-            in_range P (0 + base) (few n) j all (omega arith) (omega (arith, more, size, lt_more))
+            let all = All-permutation P (places_of_round n es) (range_with_len base (few n)) moves (All-from_recursion P (places_of_round n es) (each-places P (nat_eq n) es h)) in
+            in_range P base (few n) j all (omega arith) (omega (arith, more, size, lt_more))
       ]
 
 -- ---- entries
@@ -122,13 +122,29 @@ below_all : (n : ℕ) (es : List Exchange) → AllByRecursion (λ e. e.round < n
 below_all n [] h = tt
 below_all n (e ∷ es) h = ((let lt : e.round < n = h.0 in grind (arith, nat_tests)), below_all n es h.1)
 
+-- what stands at a place
+got : (es : List Entry) (k : ℕ) (d x : Entry) → slice_get es k ≡ Some x → get_or es k d ≡ x
+got [] k d x e = absurd (cc)
+got (y ∷ es) zero d x e = cc
+got (y ∷ es) (suc k) d x e = got es k d x e
+
+-- an entry of the given history
+given-taken : (p : Parameters) (given history : List Entry) → take (length given) history ≡ given → All (λ x. IsFitting p x.call × HasBytes x.call) given
+    → (j : ℕ) → j < length given → IsEntryTaken p history j
+given-taken p given history begins each j lt = λ x there.
+    let same : get_or given j x ≡ x =
+    ap (λ (es : List Entry). get_or es j x) (sym begins) ∙ get_or-take (length given) history j x lt ∙ got history j x x there in
+    subst (λ (e : Entry). IsFitting p e.call × HasBytes e.call) same (each j x lt)
+
 -- each entry of the history
-pub entries-taken : (p : Parameters) (history : List Entry) (rounds : List (List Request)) (sents : List Sent) → AllByRecursion (IsTaken p) (requests_of rounds)
-    → IsServed p (empty_version p) [] history rounds sents → All (λ x. IsFitting p x.call × HasBytes x.call) history
-entries-taken p history rounds sents taken served k d lt =
+pub entries-taken : (p : Parameters) (start : Version) (given history : List Entry) (rounds : List (List Request)) (sents : List Sent)
+    → All (λ x. IsFitting p x.call × HasBytes x.call) given → AllByRecursion (IsTaken p) (requests_of rounds)
+    → IsServed p start given history rounds sents → All (λ x. IsFitting p x.call × HasBytes x.call) history
+entries-taken p start given history rounds sents each_given taken served k d lt =
     let es = exchanges rounds sents in
     let of = served.served.history_of in
     let each = both p history es (requests-each (IsTaken p) rounds sents taken) (recursion_from_All (IsRecorded history) es of.recorded) in
     let all : before (length rounds) es ≡ all_places es = places-every (λ round. nat_lt round (length rounds)) es (below_all (length rounds) es (rounds-below rounds sents)) in
-    let size : k < length (before (length rounds) es) = omega (arith, of.no_others, ap length all, lt) in
-    first-rounds (IsEntryTaken p history) es _ each (length rounds) (length rounds) served.served.placed.places (omega arith) k size (get_or history k d) (slice_get-get_or history k d lt)
+    let size : k < length given + length (before (length rounds) es) = omega (arith, of.no_others, ap length all, lt) in
+    first-rounds (IsEntryTaken p history) es _ (length given) (given-taken p given history of.begins each_given) each
+    (length rounds) (length rounds) served.served.placed.places (omega arith) k size (get_or history k d) (slice_get-get_or history k d lt)

@@ -3,6 +3,7 @@ mod Repeats
 mod SoFar
 mod TextLines
 mod ShortItems
+mod ReadTexts
 mod Made
 mod Finished
 mod Commands
@@ -10,7 +11,12 @@ mod AllRuns
 mod OneReply
 mod Fitting
 mod Shown
-mod Clauses
 mod Entries
 mod QueryOpenings
+mod StatusNumbers
+mod ReaderLaws
+mod Tasks
+mod RoundRuns
+mod DemoRuns
 mod OneLanes
+mod Clauses

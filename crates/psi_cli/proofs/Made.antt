@@ -1,5 +1,5 @@
 -- What `ask` and `open` make of their items.
-use Rattle.std.proofs.Common.{◌≡◌, ℕ, ◌*◌, List, [], ◌∷◌, ◌++◌, length, map, drop, Option, None, Some, Result, refl, sym, ap, ◌∙◌, subst, inl, inr}
+use Rattle.std.proofs.Common.{◌≡◌, ℕ, ◌*◌, List, [], ◌∷◌, ◌++◌, length, map, drop, Option, None, Some, Result, ◌⊎◌, refl, sym, ap, ◌∙◌, subst, inl, inr}
 use Rattle.std.specs.List.{All, range_with_len}
 use Rattle.std.specs.Option.{IfSome}
 use Rattle.std.specs.Result.{IfErr, IsErrAnd}
@@ -12,6 +12,7 @@ use Rattle.item_slots.specs.Tags.{tag_of}
 use Rattle.psi_residue.specs.Ciphertexts.{IsCiphertext}
 use Rattle.psi_residue.specs.Parameters.{Parameters}
 use Rattle.noise_ledger.specs.Verdicts.{ArePassed}
+use Rattle.psi_outside.specs.Ends.{FilesTold, SourceTold}
 use Rattle.psi_outside.specs.Names.{FileMap, file_at}
 use Rattle.query_codec.specs.declared.fault.CodecFault.{CodecFault}
 use Rattle.query_codec.specs.Queries.{query_length}
@@ -30,12 +31,15 @@ use Rattle.psi_receiver.proofs.Encryptions.{encrypted-ciphertext, length-query}
 use Rattle.psi_cli.specs.declared.status.Status.{Status}
 use Rattle.psi_cli.specs.declared.status.Status.TheVariants as status
 use Rattle.psi_cli.specs.AnswerFiles.{IsAnswerFile}
-use Rattle.psi_cli.specs.ItemTexts.{IsItemText, items_of}
-use Rattle.psi_cli.specs.Opening.{HasNoAnswer, HasNoFile, HasReadItems, IsBadOpening, IsRefusedBody, IsNotOpened, IsUnopened, OpensNothing}
-use Rattle.psi_cli.specs.Outcomes.{AreCrowded, AreFound, HasAnswer, IsAskFrame}
-use Rattle.psi_cli.specs.Reading.{AsksNothing, HasNoItems, IsTested}
+use Rattle.psi_cli.specs.ItemTexts.{IsItemText, items_of, most_item_text}
+use Rattle.psi_cli.specs.AskAndOpen.{MayBeBadOpening, asking, opening}
+use Rattle.psi_cli.specs.Opening.{HasNoAnswer, HasNoFile, IsRefusedBody, IsUnopened}
+use Rattle.psi_cli.specs.Outcomes.{AreCrowded, AreFound, HasAnswer, IsAskFrame, IsNoAnswer}
+use Rattle.psi_cli.specs.Readers.{HasReadText, ReadsNothing}
+use Rattle.psi_cli.specs.Reading.{HasNoItems, IsReadWithin}
 use Rattle.psi_cli.specs.Texts.{crowded_text, found_text}
-use Rattle.psi_cli.specs.Worlds.{Given}
+use Rattle.psi_cli.specs.Worlds.{Given, given}
+use Rattle.psi_cli.proofs.ReadTexts.{ended_tested, within_about}
 
 -- an answer that hands an error on
 pub handed : {A : Type 0} (r : Result A Status) (s : Status) (P : Status → Type 0) → IsErrAnd r (λ t. t ≡ s) → P s → IfErr r P
@@ -73,45 +77,22 @@ same_answer file a b h k =
     let content : big_bytes 8 h.place ++ a ≡ big_bytes 8 k.place ++ b = h.tells.same_body ∙ ap (λ (f : Frame). f.body) one ∙ sym k.tells.same_body in
     sym (drop-append_seam (big_bytes 8 h.place) a) ∙ ap (drop 8) content ∙ drop-append_seam (big_bytes 8 k.place) b
 
-no_answer : (p : Parameters) (name : List ℕ) (left : Option (List ℕ)) (files : Option FileMap) → IfSome files (λ map. HasNoAnswer map name) → IsBadOpening p name left files
+no_answer : (p : Parameters) (name : List ℕ) (left : Option (List ℕ)) (files : Option FileMap) → IfSome files (λ known. HasNoAnswer known name)
+    → IfSome left (λ bytes. IfSome files (λ known. (IsItemText bytes → ⊥) ⊎ IsNoAnswer p (items_of bytes) known name))
 no_answer p name None files h = tt
 no_answer p name (Some bytes) None h = tt
-no_answer p name (Some bytes) (Some map) h = inr (record { file = h.file; there = h.there; refused = λ body is. absurd (h.none body is) })
-
--- a text that was read to its end is tested
-ended_tested : (left left_now : Option (List ℕ)) → IfSome left (λ _. left_now ≡ Some []) → IsTested left left_now
-ended_tested None left_now h = tt
-ended_tested (Some bytes) left_now h = inr h
+no_answer p name (Some bytes) (Some known) h = inr (record { file = h.file; there = h.there; refused = λ body is. absurd (h.none body is) })
 
 -- a text that is none of items is no input of `open`
-no_text : (p : Parameters) (name : List ℕ) (left : Option (List ℕ)) (files : Option FileMap) → IfSome left (λ bytes. IsItemText bytes → ⊥) → IsBadOpening p name left files
+no_text : (p : Parameters) (name : List ℕ) (left : Option (List ℕ)) (files : Option FileMap) → IfSome left (λ bytes. IsItemText bytes → ⊥)
+    → IfSome left (λ bytes. IfSome files (λ known. (IsItemText bytes → ⊥) ⊎ IsNoAnswer p (items_of bytes) known name))
 no_text p name None files h = tt
 no_text p name (Some bytes) None h = tt
-no_text p name (Some bytes) (Some map) h = inl h
+no_text p name (Some bytes) (Some known) h = inl h
 
-pub no_items : (p : Parameters) (name : List ℕ) (old new : Given) (s : Status) → new.files_failed ≡ old.files_failed → HasNoItems old.left new.left old.reads_failed new.reads_failed s → IsNotOpened p name old new s
-no_items p name old new status.BadInput quiet why = (no_text p name old.left old.files why.0, record { source = why.1; file = quiet }, why.2)
-no_items p name old new status.ReadFault quiet why = inl (why.0, why.1, quiet)
-no_items p name old new status.NoMemory quiet why = tt
-no_items p name old new status.Done quiet why = absurd why
-no_items p name old new status.Words quiet why = absurd why
-no_items p name old new status.Parameters quiet why = absurd why
-no_items p name old new status.WriteFault quiet why = absurd why
-no_items p name old new status.Crowded quiet why = absurd why
-
--- a file that is not read, or has no answer
-pub no_file : (p : Parameters) (name : List ℕ) (old new : Given) (s : Status) → HasReadItems old new → HasNoFile old.files name old.files_failed new.files_failed s → IsNotOpened p name old new s
-no_file p name old new status.BadInput read why = (no_answer p name old.left old.files why.0, record { source = read.no_read_failed; file = why.1 }, ended_tested old.left new.left read.ended)
-no_file p name old new status.ReadFault read why = inr (read, why)
-no_file p name old new status.NoMemory read why = tt
-no_file p name old new status.Done read why = absurd why
-no_file p name old new status.Words read why = absurd why
-no_file p name old new status.Parameters read why = absurd why
-no_file p name old new status.WriteFault read why = absurd why
-no_file p name old new status.Crowded read why = absurd why
-
-refused_answer : (p : Parameters) (name : List ℕ) (items : List (List ℕ)) (body : List ℕ) (left : Option (List ℕ)) (files : Option FileMap) → IsRefusedBody p items body → IfSome left (λ bytes. items ≡ items_of bytes)
-    → IfSome files (λ map. HasAnswer map name body) → IsBadOpening p name left files
+refused_answer : (p : Parameters) (name : List ℕ) (items : List (List ℕ)) (body : List ℕ) (left : Option (List ℕ)) (files : Option FileMap) → IsRefusedBody p items body
+    → IfSome left (λ bytes. items ≡ items_of bytes) → IfSome files (λ known. HasAnswer known name body)
+    → IfSome left (λ bytes. IfSome files (λ known. (IsItemText bytes → ⊥) ⊎ IsNoAnswer p (items_of bytes) known name))
 refused_answer p name items body None files why is h = tt
 refused_answer p name items body (Some bytes) None why is h = tt
 refused_answer p name items body (Some bytes) (Some known) why is h =
@@ -123,17 +104,67 @@ refused_answer p name items body (Some bytes) (Some known) why is h =
           (subst (λ (xs : List (List ℕ)). HavePlacement p.rows (map tag_of xs)) is why.placed, λ reply. why.refused (subst (IsReply p) (sym same) reply));
     })
 
--- an answer whose body is refused
-pub unopened : (p : Parameters) (name : List ℕ) (old new : Given) (items : List (List ℕ)) (body : List ℕ) (s : Status) → HasReadItems old new → new.files_failed ≡ old.files_failed
-    → IfSome old.left (λ bytes. items ≡ items_of bytes) → IfSome old.files (λ map. HasAnswer map name body) → IsUnopened p items body s → IsNotOpened p name old new s
-unopened p name old new items body status.BadInput read quiet_file are has why = (refused_answer p name items body old.left old.files why are has, record { source = read.no_read_failed; file = quiet_file }, ended_tested old.left new.left read.ended)
-unopened p name old new items body status.NoMemory read quiet_file are has why = tt
-unopened p name old new items body status.Done read quiet_file are has why = absurd why
-unopened p name old new items body status.Words read quiet_file are has why = absurd why
-unopened p name old new items body status.Parameters read quiet_file are has why = absurd why
-unopened p name old new items body status.ReadFault read quiet_file are has why = absurd why
-unopened p name old new items body status.WriteFault read quiet_file are has why = absurd why
-unopened p name old new items body status.Crowded read quiet_file are has why = absurd why
+-- ---- why `ask` and `open` come to nothing
+
+-- no items were read, whatever the files are
+pub asks_none : (p : Parameters) (seed : List ℕ) (session number : ℕ) (old new : SourceTold) (files : FilesTold) (s : Status) → ArePassed p → HasNoItems old new s
+    → ReadsNothing (asking p seed session number) (given old files) (given new files) s
+asks_none p seed session number old new files status.BadInput passed why =
+    record { passed = passed; bad = why.no_item_text; no_read_failed = record { source = why.no_read_failed; file = refl }; tested = why.tested }
+asks_none p seed session number old new files status.ReadFault passed why = record { passed = passed; failed = inl (record { source = why; unread = refl }) }
+asks_none p seed session number old new files status.NoMemory passed why = why
+asks_none p seed session number old new files status.Done passed why = absurd why
+asks_none p seed session number old new files status.Words passed why = absurd why
+asks_none p seed session number old new files status.Parameters passed why = absurd why
+asks_none p seed session number old new files status.WriteFault passed why = absurd why
+asks_none p seed session number old new files status.Crowded passed why = absurd why
+
+module _ (p : Parameters) (seed name : List ℕ) (old new : Given) (passed : ArePassed p) where
+  pub opens_none : (s : Status) → new.files ≡ old.files → HasNoItems old.source new.source s → ReadsNothing (opening p seed name) old new s
+  opens_none status.BadInput quiet why =
+      record { passed = passed; bad = no_text p name old.source.left old.files.files why.no_item_text; no_read_failed = record { source = why.no_read_failed; file = ap (λ (f : FilesTold). f.faults) quiet }; tested = why.tested }
+  opens_none status.ReadFault quiet why = record { passed = passed; failed = inl (record { source = why; unread = quiet }) }
+  opens_none status.NoMemory quiet why = why
+  opens_none status.Done quiet why = absurd why
+  opens_none status.Words quiet why = absurd why
+  opens_none status.Parameters quiet why = absurd why
+  opens_none status.WriteFault quiet why = absurd why
+  opens_none status.Crowded quiet why = absurd why
+
+  module _ (read : HasReadText (opening p seed name) old new) (within : IsReadWithin most_item_text old.source new.source) where
+    -- a file that is not read, or has no answer
+    pub no_file : (s : Status) → HasNoFile old.files new.files name s → ReadsNothing (opening p seed name) old new s
+    no_file status.BadInput why = record {
+      passed = passed;
+      bad = no_answer p name old.source.left old.files.files why.0;
+      no_read_failed = record { source = read.no_read_failed; file = why.1 };
+      tested = ended_tested most_item_text old.source new.source read.ended within;
+    }
+    no_file status.ReadFault why = record { passed = passed; failed = inr (record { file = refl; read = read; failed = why }) }
+    no_file status.NoMemory why = within_about most_item_text old.source new.source within
+    no_file status.Done why = absurd why
+    no_file status.Words why = absurd why
+    no_file status.Parameters why = absurd why
+    no_file status.WriteFault why = absurd why
+    no_file status.Crowded why = absurd why
+
+    -- an answer whose body is refused
+    pub unopened : (items : List (List ℕ)) (body : List ℕ) (s : Status) → new.files.faults ≡ old.files.faults
+        → IfSome old.source.left (λ bytes. items ≡ items_of bytes) → IfSome old.files.files (λ known. HasAnswer known name body) → IsUnopened p items body s
+        → ReadsNothing (opening p seed name) old new s
+    unopened items body status.BadInput quiet are has why = record {
+      passed = passed;
+      bad = refused_answer p name items body old.source.left old.files.files why are has;
+      no_read_failed = record { source = read.no_read_failed; file = quiet };
+      tested = ended_tested most_item_text old.source new.source read.ended within;
+    }
+    unopened items body status.NoMemory quiet are has why = within_about most_item_text old.source new.source within
+    unopened items body status.Done quiet are has why = absurd why
+    unopened items body status.Words quiet are has why = absurd why
+    unopened items body status.Parameters quiet are has why = absurd why
+    unopened items body status.ReadFault quiet are has why = absurd why
+    unopened items body status.WriteFault quiet are has why = absurd why
+    unopened items body status.Crowded quiet are has why = absurd why
 
 -- a file in which no answer was found
 pub file_without : (files : Option FileMap) (name file shown : List ℕ) (found : Option (List ℕ)) → IfSome files (λ known. file_at known name ≡ Some file) → shown ≡ file
@@ -141,24 +172,3 @@ pub file_without : (files : Option FileMap) (name file shown : List ℕ) (found 
 file_without None name file shown found there same none is = tt
 file_without (Some known) name file shown found there same none is =
     record { file = file; there = there; none = λ body answer. none is body (subst (λ (bytes : List ℕ). IsAnswerFile bytes body) (sym same) answer) }
-
--- with parameters that pass nothing else is refused
-pub opens_nothing : (p : Parameters) (name : List ℕ) (old new : Given) (s : Status) → ArePassed p → IsNotOpened p name old new s → OpensNothing p name old new s
-opens_nothing p name old new status.BadInput passed why = (passed, why)
-opens_nothing p name old new status.ReadFault passed why = (passed, why)
-opens_nothing p name old new status.NoMemory passed why = tt
-opens_nothing p name old new status.Done passed why = absurd why
-opens_nothing p name old new status.Words passed why = absurd why
-opens_nothing p name old new status.Parameters passed why = absurd why
-opens_nothing p name old new status.WriteFault passed why = absurd why
-opens_nothing p name old new status.Crowded passed why = absurd why
-
-pub asks_nothing : (p : Parameters) (left left_now : Option (List ℕ)) (before now : ℕ) (s : Status) → ArePassed p → HasNoItems left left_now before now s → AsksNothing p left left_now before now s
-asks_nothing p left left_now before now status.BadInput passed why = (passed, why)
-asks_nothing p left left_now before now status.ReadFault passed why = (passed, why)
-asks_nothing p left left_now before now status.NoMemory passed why = tt
-asks_nothing p left left_now before now status.Done passed why = absurd why
-asks_nothing p left left_now before now status.Words passed why = absurd why
-asks_nothing p left left_now before now status.Parameters passed why = absurd why
-asks_nothing p left left_now before now status.WriteFault passed why = absurd why
-asks_nothing p left left_now before now status.Crowded passed why = absurd why

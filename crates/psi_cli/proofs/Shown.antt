@@ -5,7 +5,7 @@ use Rattle.std.specs.Io.KnownBytes.{Appends}
 use Rattle.std.specs.Option.{IfSome}
 use Rattle.std.specs.Result.{IfErr, IfOk}
 use Rattle.std.proofs.lemmas.Bool.{eq-eqb}
-use Rattle.psi_outside.specs.Ends.{Ends}
+use Rattle.psi_outside.specs.Ends.{Ends, SinkTold}
 use Rattle.psi_frames.specs.declared.frame.Frame.{Frame}
 use Rattle.psi_frames.specs.Frames.{AreWholeFrames, IsFrame, IsSpellable, Table, frames_bytes, most_bytes, request_table}
 use Rattle.psi_frames.specs.Served.{Sent, text_of}
@@ -22,7 +22,7 @@ use Rattle.psi_cli.specs.declared.status.Status.TheVariants as status
 use Rattle.psi_cli.specs.Demonstrations.{Demonstrates, IsDemonstration, ServesFrames, ShowsNothing, ShowsSo}
 use Rattle.psi_cli.specs.Leaving.{Finishes}
 use Rattle.psi_cli.specs.Statuses.{status_number}
-use Rattle.psi_cli.specs.Worlds.{Held, IsUntouched}
+use Rattle.psi_cli.specs.Worlds.{IsUntouched}
 
 -- ---- what serves a script
 
@@ -65,7 +65,7 @@ replies_serve workers frames sents text r e = record {
 
 -- what a run in memory wrote to a sink that held nothing serves the frames of its input
 pub serves_frames : (workers : ℕ) (bytes input replies : List ℕ) (frames : List Frame) (old new : Ends) (served : Served)
-    → old.left ≡ Some input → input ≡ bytes → old.written ≡ Some [] → new.written ≡ Some replies → HasServed demo_parameters (nat_eq workers 1) old new served → served.status ≡ 0
+    → old.source.left ≡ Some input → input ≡ bytes → old.sink.written ≡ Some [] → new.sink.written ≡ Some replies → HasServed demo_parameters (nat_eq workers 1) old new served → served.status ≡ 0
     → AreWholeFrames request_table bytes frames None → ServesFrames workers frames replies
 serves_frames workers bytes input replies frames old new served left is none now so done whole =
     let d = so.done done in
@@ -73,7 +73,7 @@ serves_frames workers bytes input replies frames old new served left is none now
     let same : d.frames ≡ frames = same_whole request_table d.input d.frames frames d.whole (subst (λ (b : List ℕ). AreWholeFrames request_table b frames None) (sym is ∙ told) whole) in
     let text : Appends (Some []) (Some replies) (text_of d.answered.sents) =
     subst (λ (o : Option (List ℕ)). Appends (Some []) o (text_of d.answered.sents)) now
-    (subst (λ (o : Option (List ℕ)). Appends o new.written (text_of d.answered.sents)) none d.answered.written) in
+    (subst (λ (o : Option (List ℕ)). Appends o new.sink.written (text_of d.answered.sents)) none d.answered.written) in
     replies_serve workers frames d.answered.sents replies (subst (λ (fs : List Frame). AreRepliesTo demo_parameters (nat_eq workers 1) fs d.answered.sents) same d.answered.replies) text
 
 -- the summary of what serves a script
@@ -85,7 +85,7 @@ is_demonstration number workers bytes replies text script serves summary =
 
 -- ---- what its run leaves
 
-shows_nothing : (number workers : ℕ) (old new : Held) (s : Status) → ShowsNothing number s → IsUntouched old new → ShowsSo number workers old new s
+shows_nothing : (number workers : ℕ) (old new : SinkTold) (s : Status) → ShowsNothing number s → IsUntouched old new → ShowsSo number workers old new s
 shows_nothing number workers old new status.Crowded why none = (why, none)
 shows_nothing number workers old new status.NoMemory why none = none
 shows_nothing number workers old new status.Done why none = absurd why
@@ -95,7 +95,7 @@ shows_nothing number workers old new status.BadInput why none = absurd why
 shows_nothing number workers old new status.ReadFault why none = absurd why
 shows_nothing number workers old new status.WriteFault why none = absurd why
 
-pub demonstrates : (number workers : ℕ) (old new : Held) (made : Result Outcome Status) (s : Status) (n : ℕ) → n ≡ status_number s
+pub demonstrates : (number workers : ℕ) (old new : SinkTold) (made : Result Outcome Status) (s : Status) (n : ℕ) → n ≡ status_number s
     → IfOk made (λ o. (o.status ≡ status.Done) × IsDemonstration number workers o.text.items) → IfErr made (ShowsNothing number) → Finishes made old new s → Demonstrates number workers old new n
 demonstrates number workers old new (Ok o) s n e makes why (inl w) = (status.Done, e ∙ ap status_number (w.0 ∙ makes.0), (o.text.items, makes.1, w.1))
 demonstrates number workers old new (Ok o) s n e makes why (inr w) = (status.WriteFault, e ∙ ap status_number w.0, (o.text.items, makes.1, w.1))

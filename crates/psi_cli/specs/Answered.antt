@@ -1,59 +1,111 @@
--- The headline: inputs that are answered, and how the answers open.
-use Rattle.std.specs.Prelude.{◌≡◌, ◌⊎◌, ℕ, ◌<◌, ◌≤◌, Bool, true, nat_eq, List, [], length, map, Option, None, Some, IfSome, IsSome, IsSomeAnd, Ok, Err, ⊤}
-use Rattle.item_slots.specs.Tags.{tag_of}
-use Rattle.cuckoo_place.specs.Placements.{HasNoPlacement}
+-- What the top call says of a command, by its kind.
+use Rattle.std.specs.Prelude.{◌≡◌, ◌⊎◌, ◌<◌, ◌≤◌, ℕ, Bool, List, [], length, Option, None, IfSome, IsSome, IsSomeAnd, ⊤}
 use Rattle.psi_residue.specs.Parameters.{Parameters}
 use Rattle.noise_ledger.specs.Verdicts.{ArePassed}
-use Rattle.query_codec.specs.Replies.{IsReply}
-use Rattle.psi_outside.specs.Names.{FileMap}
 use Rattle.psi_frames.specs.declared.frame.Frame.{Frame}
 use Rattle.psi_frames.specs.Frames.{AreWholeFrames, Fault, most_bytes, request_table}
-use Rattle.psi_frames.specs.Rounds.{request_rounds}
-use Rattle.psi_frames.specs.Served.{IsOneLaneTextOf, Sent, exchanges, text_of}
-use Rattle.psi_serve.specs.Serving.{AreRepliesTo}
-use Rattle.psi_words.specs.declared.command.Command.TheVariants as command
 use Rattle.psi_demo.specs.Items.{asked_tags, demo_parameters}
 use Rattle.psi_demo.specs.Summaries.{AreUnplaced}
 use Rattle.psi_receiver.specs.Faults.{HavePlacement}
-use Rattle.psi_receiver.specs.Placements.{position_sets}
-use Rattle.psi_cli.specs.Commands.{command_parameters, word_parameters}
-use Rattle.psi_cli.specs.ItemTexts.{IsItemText, items_of}
-use Rattle.psi_cli.specs.Outcomes.{AreCrowded, HasAnswer, IsNoAnswer}
-use Rattle.psi_cli.specs.Opening.{IsBadOpening}
-use Rattle.psi_cli.specs.QueryAnswers.{AnswersOpen}
-use Rattle.psi_cli.specs.Runs.{Judged}
+use Rattle.psi_cli.specs.Kinds.{IsAlone, Kind, is_alone}
+use Rattle.psi_cli.specs.Readers.{Reader}
+use Rattle.psi_cli.specs.Worlds.{Given}
 
--- ---- `serve` and `replay`
+-- ---- what holds of one kind
 
--- What holds of the rounds that words ask for: of their parameters, and of whether one lane alone answers. One worker of `serve` does so.
-abbrev pub IfRounds : Judged → (Parameters → (alone : Bool) → Type 0) → Type 0
-IfRounds (Ok (command.Serve rows capacity units drop counted workers builders)) P = P (word_parameters rows capacity units drop counted) (nat_eq workers 1)
-IfRounds (Ok (command.Replay rows capacity units drop counted)) P = P (word_parameters rows capacity units drop counted) true
-IfRounds _ P = ⊤
+-- of rounds: of their parameters, and whether one lane alone answers
+abbrev pub IfRounds : Kind → (Parameters → (alone : Bool) → Type 0) → Type 0
+IfRounds (Kind.Rounds p lanes) P = P p (is_alone lanes)
+IfRounds (Kind.Reads reader) P = ⊤
+IfRounds (Kind.Figures p) P = ⊤
+IfRounds (Kind.Demonstration number workers) P = ⊤
+IfRounds Kind.Help P = ⊤
+IfRounds Kind.NoCommand P = ⊤
 
--- The input is whole frames to its end, and the text is one reply for each request, in input order; their places number one history in
--- which each call stands once, in its session's order, answered as the one-thread sender answers; and each answer to a receiver's query
--- opens to exactly what is found in the set at its place. Alone: the replies are those of one lane.
-pub record IsAnswered (p : Parameters) (alone : Bool) (bytes text : List ℕ) : Type 0 where
-  pub few_bytes : length bytes ≤ most_bytes
-  pub frames : List Frame
-  pub whole : AreWholeFrames request_table bytes frames None
-  pub sents : List Sent
-  pub replies : AreRepliesTo p alone frames sents
-  pub opens : AnswersOpen p replies.history (exchanges (request_rounds p replies.rounds) sents)
-  pub text_is : text ≡ text_of sents
+-- of rounds that one lane alone answers
+abbrev pub IfOneLane : Kind → (Parameters → Type 0) → Type 0
+IfOneLane (Kind.Rounds p lanes) P = IsAlone lanes → P p
+IfOneLane (Kind.Reads reader) P = ⊤
+IfOneLane (Kind.Figures p) P = ⊤
+IfOneLane (Kind.Demonstration number workers) P = ⊤
+IfOneLane Kind.Help P = ⊤
+IfOneLane Kind.NoCommand P = ⊤
 
--- what holds of the rounds that words ask of one lane: those of `replay`, and those of `serve` with one worker
-abbrev pub IfOneLane : Judged → (Parameters → Type 0) → Type 0
-IfOneLane (Ok (command.Serve rows capacity units drop counted workers builders)) P = workers ≡ 1 → P (word_parameters rows capacity units drop counted)
-IfOneLane (Ok (command.Replay rows capacity units drop counted)) P = P (word_parameters rows capacity units drop counted)
-IfOneLane _ P = ⊤
+-- of a command that reads a text
+abbrev pub IfReads : Kind → (Reader → Type 0) → Type 0
+IfReads (Kind.Rounds p lanes) P = ⊤
+IfReads (Kind.Reads reader) P = P reader
+IfReads (Kind.Figures p) P = ⊤
+IfReads (Kind.Demonstration number workers) P = ⊤
+IfReads Kind.Help P = ⊤
+IfReads Kind.NoCommand P = ⊤
 
--- the input is whole frames to its end, and the text is the one that serves their rounds, from the empty set, as one lane does
-pub record IsOneLaneAnswer (p : Parameters) (bytes text : List ℕ) : Type 0 where
-  pub frames : List Frame
-  pub whole : AreWholeFrames request_table bytes frames None
-  pub one_lane : IsOneLaneTextOf p frames text
+-- of the parameters of `params`
+abbrev pub IfFigures : Kind → (Parameters → Type 0) → Type 0
+IfFigures (Kind.Rounds p lanes) P = ⊤
+IfFigures (Kind.Reads reader) P = ⊤
+IfFigures (Kind.Figures p) P = P p
+IfFigures (Kind.Demonstration number workers) P = ⊤
+IfFigures Kind.Help P = ⊤
+IfFigures Kind.NoCommand P = ⊤
+
+-- of the words of `demo`
+abbrev pub IfDemo : Kind → ((number workers : ℕ) → Type 0) → Type 0
+IfDemo (Kind.Rounds p lanes) P = ⊤
+IfDemo (Kind.Reads reader) P = ⊤
+IfDemo (Kind.Figures p) P = ⊤
+IfDemo (Kind.Demonstration number workers) P = P number workers
+IfDemo Kind.Help P = ⊤
+IfDemo Kind.NoCommand P = ⊤
+
+-- of `help`
+abbrev pub IfHelp : Kind → Type 0 → Type 0
+IfHelp (Kind.Rounds p lanes) P = ⊤
+IfHelp (Kind.Reads reader) P = ⊤
+IfHelp (Kind.Figures p) P = ⊤
+IfHelp (Kind.Demonstration number workers) P = ⊤
+IfHelp Kind.Help P = P
+IfHelp Kind.NoCommand P = ⊤
+
+-- of all but rounds
+abbrev pub IfNoRounds : Kind → Type 0 → Type 0
+IfNoRounds (Kind.Rounds p lanes) P = ⊤
+IfNoRounds (Kind.Reads reader) P = P
+IfNoRounds (Kind.Figures p) P = P
+IfNoRounds (Kind.Demonstration number workers) P = P
+IfNoRounds Kind.Help P = P
+IfNoRounds Kind.NoCommand P = P
+
+-- of all that read nothing, whatever comes
+abbrev pub IfNoReading : Kind → Type 0 → Type 0
+IfNoReading (Kind.Rounds p lanes) P = ⊤
+IfNoReading (Kind.Reads reader) P = ⊤
+IfNoReading (Kind.Figures p) P = P
+IfNoReading (Kind.Demonstration number workers) P = P
+IfNoReading Kind.Help P = P
+IfNoReading Kind.NoCommand P = P
+
+-- ---- what words ask for
+
+-- parameters that are refused are given
+abbrev pub AreRefused : Kind → Type 0
+AreRefused (Kind.Rounds p lanes) = ArePassed p → ⊥
+AreRefused (Kind.Reads reader) = ArePassed reader.parameters → ⊥
+AreRefused (Kind.Figures p) = ArePassed p → ⊥
+AreRefused (Kind.Demonstration number workers) = ⊥
+AreRefused Kind.Help = ⊥
+AreRefused Kind.NoCommand = ⊥
+
+-- a command that reads its source to its end
+abbrev pub IsReading : Kind → Type 0
+IsReading (Kind.Rounds p lanes) = ⊤
+IsReading (Kind.Reads reader) = ⊤
+IsReading (Kind.Figures p) = ⊥
+IsReading (Kind.Demonstration number workers) = ⊥
+IsReading Kind.Help = ⊥
+IsReading Kind.NoCommand = ⊥
+
+-- ---- bad inputs, items without a placement, and what is complete
 
 -- an input that is no whole frames: it has a bad frame, ends within a frame, or is too long
 pub record AreBadFrames (bytes : List ℕ) : Type 0 where
@@ -68,109 +120,48 @@ pub record AreGoodFrames (bytes : List ℕ) : Type 0 where
   pub frames : List Frame
   pub whole : AreWholeFrames request_table bytes frames None
 
--- ---- what words ask for
-
--- the parameters that words give are refused
-abbrev pub RefusesAny : Option Parameters → Type 0
-RefusesAny None = ⊥
-RefusesAny (Some p) = ArePassed p → ⊥
-
-abbrev pub AreRefused : Judged → Type 0
-AreRefused (Err fault) = ⊥
-AreRefused (Ok c) = RefusesAny (command_parameters c)
-
--- the words ask for a command that reads its source to its end
-abbrev pub IsReading : Judged → Type 0
-IsReading (Ok (command.Params rows capacity units drop counted)) = ⊥
-IsReading (Ok (command.Demo number workers)) = ⊥
-IsReading (Ok command.Help) = ⊥
-IsReading (Err fault) = ⊥
-IsReading (Ok c) = ⊤
-
--- what holds of the parameters of `params`, of `help`, and of the words of `ask` and `open`
-abbrev pub IfParams : Judged → (Parameters → Type 0) → Type 0
-IfParams (Ok (command.Params rows capacity units drop counted)) P = P (word_parameters rows capacity units drop counted)
-IfParams _ P = ⊤
-
-abbrev pub IfHelp : Judged → Type 0 → Type 0
-IfHelp (Ok command.Help) P = P
-IfHelp _ P = ⊤
-
-abbrev pub IfAsk : Judged → (Parameters → (seed : List ℕ) → (session number : ℕ) → Type 0) → Type 0
-IfAsk (Ok (command.Ask rows capacity units drop counted seed session number)) P = P (word_parameters rows capacity units drop counted) seed session number
-IfAsk _ P = ⊤
-
-abbrev pub IfOpen : Judged → (Parameters → (seed name : List ℕ) → Type 0) → Type 0
-IfOpen (Ok (command.Open rows capacity units drop counted seed name)) P = P (word_parameters rows capacity units drop counted) seed name
-IfOpen _ P = ⊤
-
--- what holds of the words of `demo`
-abbrev pub IfDemo : Judged → ((number workers : ℕ) → Type 0) → Type 0
-IfDemo (Ok (command.Demo number workers)) P = P number workers
-IfDemo _ P = ⊤
-
--- what holds unless the words ask for rounds
-abbrev pub IfNoRounds : Judged → Type 0 → Type 0
-IfNoRounds (Ok (command.Serve rows capacity units drop counted workers builders)) P = ⊤
-IfNoRounds (Ok (command.Replay rows capacity units drop counted)) P = ⊤
-IfNoRounds _ P = P
-
--- ---- bad inputs, items without a placement, and what is complete
-
 -- what was told is a bad input, as far as it is told
-abbrev pub IsBadInput : Judged → (left : Option (List ℕ)) → (files : Option FileMap) → Type 0
-IsBadInput (Ok (command.Serve rows capacity units drop counted workers builders)) left files = IfSome left AreBadFrames
-IsBadInput (Ok (command.Replay rows capacity units drop counted)) left files = IfSome left AreBadFrames
-IsBadInput (Ok (command.Ask rows capacity units drop counted seed session number)) left files = IfSome left (λ bytes. IsItemText bytes → ⊥)
-IsBadInput (Ok (command.Open rows capacity units drop counted seed name)) left files = IsBadOpening (word_parameters rows capacity units drop counted) name left files
-IsBadInput _ left files = ⊥
+abbrev pub IsBadInput : Kind → Given → Type 0
+IsBadInput (Kind.Rounds p lanes) given = IfSome given.source.left AreBadFrames
+IsBadInput (Kind.Reads reader) given = reader.may_be_bad given
+IsBadInput (Kind.Figures p) given = ⊥
+IsBadInput (Kind.Demonstration number workers) given = ⊥
+IsBadInput Kind.Help given = ⊥
+IsBadInput Kind.NoCommand given = ⊥
 
 -- the words ask for a command with parameters that pass, and a bad input is told
-abbrev pub IsToldBad : Judged → (left : Option (List ℕ)) → (files : Option FileMap) → Type 0
-IsToldBad (Ok (command.Serve rows capacity units drop counted workers builders)) left files = ArePassed (word_parameters rows capacity units drop counted) × IsSomeAnd left AreBadFrames
-IsToldBad (Ok (command.Replay rows capacity units drop counted)) left files = ArePassed (word_parameters rows capacity units drop counted) × IsSomeAnd left AreBadFrames
-IsToldBad (Ok (command.Ask rows capacity units drop counted seed session number)) left files = ArePassed (word_parameters rows capacity units drop counted) × IsSomeAnd left (λ bytes. IsItemText bytes → ⊥)
-IsToldBad (Ok (command.Open rows capacity units drop counted seed name)) left files =
-    ArePassed (word_parameters rows capacity units drop counted)
-    × IsSomeAnd left (λ bytes. (IsItemText bytes → ⊥) ⊎ IsSomeAnd files (λ known. IsNoAnswer (word_parameters rows capacity units drop counted) (items_of bytes) known name))
-IsToldBad _ left files = ⊥
+abbrev pub IsToldBad : Kind → Given → Type 0
+IsToldBad (Kind.Rounds p lanes) given = ArePassed p × IsSomeAnd given.source.left AreBadFrames
+IsToldBad (Kind.Reads reader) given = ArePassed reader.parameters × reader.is_bad given
+IsToldBad (Kind.Figures p) given = ⊥
+IsToldBad (Kind.Demonstration number workers) given = ⊥
+IsToldBad Kind.Help given = ⊥
+IsToldBad Kind.NoCommand given = ⊥
 
--- the items of a text have no placement
-abbrev pub HaveNoPlace : (rows : ℕ) → (bytes : List ℕ) → Type 0
-HaveNoPlace rows bytes = HasNoPlacement (position_sets rows (map tag_of (items_of bytes)))
+-- the words ask for items to be placed, all that is tested before is told and good, and the items have no placement
+abbrev pub IsToldCrowded : Kind → Given → Type 0
+IsToldCrowded (Kind.Rounds p lanes) given = ⊥
+IsToldCrowded (Kind.Reads reader) given = ArePassed reader.parameters × reader.is_crowded given
+IsToldCrowded (Kind.Figures p) given = ⊥
+IsToldCrowded (Kind.Demonstration number workers) given = AreUnplaced (asked_tags number)
+IsToldCrowded Kind.Help given = ⊥
+IsToldCrowded Kind.NoCommand given = ⊥
 
--- the words ask for `ask`, `open` or `demo`, all that is tested before the placement is told and good, and the items have none
-abbrev pub IsToldCrowded : Judged → (left : Option (List ℕ)) → (files : Option FileMap) → Type 0
-IsToldCrowded (Ok (command.Ask rows capacity units drop counted seed session number)) left files =
-    ArePassed (word_parameters rows capacity units drop counted) × IsSomeAnd left (λ bytes. IsItemText bytes × HaveNoPlace rows bytes)
-IsToldCrowded (Ok (command.Open rows capacity units drop counted seed name)) left files =
-    ArePassed (word_parameters rows capacity units drop counted)
-    × IsSomeAnd left (λ bytes. IsItemText bytes × HaveNoPlace rows bytes × IsSomeAnd files (λ known. (body : List ℕ) × HasAnswer known name body))
-IsToldCrowded (Ok (command.Demo number workers)) left files = AreUnplaced (asked_tags number)
-IsToldCrowded _ left files = ⊥
-
--- what crowded items of `ask` and `open` write, where they are told, and that the file has an answer; those of `demo` have no placement, and
--- write nothing
-abbrev pub IfCrowded : Judged → (left : Option (List ℕ)) → (files : Option FileMap) → (List ℕ → Type 0) → Type 0
-IfCrowded (Ok (command.Ask rows capacity units drop counted seed session number)) left files P =
-    IfSome left (λ bytes. (text : List ℕ) × AreCrowded rows (items_of bytes) text × P text)
-IfCrowded (Ok (command.Open rows capacity units drop counted seed name)) left files P =
-    IfSome left (λ bytes. (text : List ℕ) × AreCrowded rows (items_of bytes) text × P text × IfSome files (λ known. (body : List ℕ) × HasAnswer known name body))
-IfCrowded (Ok (command.Demo number workers)) left files P = AreUnplaced (asked_tags number) × P []
-IfCrowded _ left files P = ⊥
+-- The text that crowded items write is so, where they are told. Those of `demo` have no placement, and write nothing.
+abbrev pub IfCrowded : Kind → Given → (List ℕ → Type 0) → Type 0
+IfCrowded (Kind.Rounds p lanes) given Is = ⊥
+IfCrowded (Kind.Reads reader) given Is = (text : List ℕ) × reader.crowd given text × Is text
+IfCrowded (Kind.Figures p) given Is = ⊥
+IfCrowded (Kind.Demonstration number workers) given Is = AreUnplaced (asked_tags number) × Is []
+IfCrowded Kind.Help given Is = ⊥
+IfCrowded Kind.NoCommand given Is = ⊥
 
 -- All is told and good: the parameters pass, and the input, the file and the asked items are such that nothing but a fault or want of memory keeps the
 -- command from being done.
-abbrev pub IsToldGood : Judged → (left : Option (List ℕ)) → (files : Option FileMap) → Type 0
-IsToldGood (Ok (command.Serve rows capacity units drop counted workers builders)) left files = ArePassed (word_parameters rows capacity units drop counted) × IsSomeAnd left AreGoodFrames
-IsToldGood (Ok (command.Replay rows capacity units drop counted)) left files = ArePassed (word_parameters rows capacity units drop counted) × IsSomeAnd left AreGoodFrames
-IsToldGood (Ok (command.Params rows capacity units drop counted)) left files = ArePassed (word_parameters rows capacity units drop counted)
-IsToldGood (Ok (command.Ask rows capacity units drop counted seed session number)) left files =
-    ArePassed (word_parameters rows capacity units drop counted) × IsSomeAnd left (λ bytes. IsItemText bytes × HavePlacement rows (map tag_of (items_of bytes)))
-IsToldGood (Ok (command.Open rows capacity units drop counted seed name)) left files =
-    ArePassed (word_parameters rows capacity units drop counted)
-    × IsSomeAnd left (λ bytes. IsItemText bytes × HavePlacement rows (map tag_of (items_of bytes))
-    × IsSomeAnd files (λ known. (body : List ℕ) × HasAnswer known name body × IsReply (word_parameters rows capacity units drop counted) body))
-IsToldGood (Ok (command.Demo number workers)) left files = HavePlacement demo_parameters.rows (asked_tags number)
-IsToldGood (Ok command.Help) left files = ⊤
-IsToldGood _ left files = ⊥
+abbrev pub IsToldGood : Kind → Given → Type 0
+IsToldGood (Kind.Rounds p lanes) given = ArePassed p × IsSomeAnd given.source.left AreGoodFrames
+IsToldGood (Kind.Reads reader) given = ArePassed reader.parameters × reader.is_good given
+IsToldGood (Kind.Figures p) given = ArePassed p
+IsToldGood (Kind.Demonstration number workers) given = HavePlacement demo_parameters.rows (asked_tags number)
+IsToldGood Kind.Help given = ⊤
+IsToldGood Kind.NoCommand given = ⊥

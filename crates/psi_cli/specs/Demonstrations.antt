@@ -9,7 +9,8 @@ use Rattle.psi_demo.specs.Texts.{IsSummary}
 use Rattle.psi_cli.specs.declared.status.Status.{Status}
 use Rattle.psi_cli.specs.declared.status.Status.TheVariants as status
 use Rattle.psi_cli.specs.Statuses.{status_number}
-use Rattle.psi_cli.specs.Worlds.{Held, IsCutOff, IsUntouched, IsWritten}
+use Rattle.psi_outside.specs.Ends.{SinkTold}
+use Rattle.psi_cli.specs.Worlds.{IsTextCutOff, IsTextWritten, IsUntouched}
 
 -- The text of replies serves these frames from the empty set; it is that of one lane where there is one worker.
 pub record ServesFrames (workers : ℕ) (frames : List Frame) (replies : List ℕ) : Type 0 where
@@ -28,16 +29,25 @@ pub record IsDemonstration (number workers : ℕ) (text : List ℕ) : Type 0 whe
 abbrev pub ShowsNothing : (number : ℕ) → Status → Type 0
 ShowsNothing number status.Crowded = AreUnplaced (asked_tags number)
 ShowsNothing number status.NoMemory = ⊤
-ShowsNothing number _ = ⊥
+ShowsNothing number status.Done = ⊥
+ShowsNothing number status.Words = ⊥
+ShowsNothing number status.Parameters = ⊥
+ShowsNothing number status.BadInput = ⊥
+ShowsNothing number status.ReadFault = ⊥
+ShowsNothing number status.WriteFault = ⊥
 
--- What the demonstration leaves, by its status: it was written and flushed, or cut off, or there was none and nothing was written.
-abbrev pub ShowsSo : (number workers : ℕ) → (old new : Held) → Status → Type 0
-ShowsSo number workers old new status.Done = (text : List ℕ) × IsDemonstration number workers text × IsWritten text old new
-ShowsSo number workers old new status.WriteFault = (text : List ℕ) × IsDemonstration number workers text × IsCutOff text old new
-ShowsSo number workers old new status.Crowded = AreUnplaced (asked_tags number) × IsUntouched old new
-ShowsSo number workers old new status.NoMemory = IsUntouched old new
-ShowsSo number workers old new _ = ⊥
+module _ (number workers : ℕ) (old new : SinkTold) where
+  -- What the demonstration leaves, by its status: it was written and flushed, or cut off, or there was none and nothing was written.
+  abbrev pub ShowsSo : Status → Type 0
+  ShowsSo status.Done = (text : List ℕ) × IsDemonstration number workers text × IsTextWritten text old new
+  ShowsSo status.WriteFault = (text : List ℕ) × IsDemonstration number workers text × IsTextCutOff text old new
+  ShowsSo status.Crowded = AreUnplaced (asked_tags number) × IsUntouched old new
+  ShowsSo status.NoMemory = IsUntouched old new
+  ShowsSo status.Words = ⊥
+  ShowsSo status.Parameters = ⊥
+  ShowsSo status.BadInput = ⊥
+  ShowsSo status.ReadFault = ⊥
 
--- the same, by the number of its status
-abbrev pub Demonstrates : (number workers : ℕ) → (old new : Held) → ℕ → Type 0
-Demonstrates number workers old new n = (s : Status) × (n ≡ status_number s) × ShowsSo number workers old new s
+  -- the same, by the number of its status
+  abbrev pub Demonstrates : ℕ → Type 0
+  Demonstrates n = (s : Status) × (n ≡ status_number s) × ShowsSo s

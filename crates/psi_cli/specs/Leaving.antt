@@ -1,60 +1,69 @@
--- What a run leaves that reads its input whole and then writes one text: `params`, `ask`, `open` and `help`.
-use Rattle.std.specs.Prelude.{◌≡◌, ◌⊎◌, ℕ, List, [], Some, IfSome, Ok, Err, Result}
-use Rattle.psi_words.specs.declared.command.Command.{Command}
-use Rattle.psi_words.specs.declared.command.Command.TheVariants as command
+-- What a run leaves that reads its input whole, if it reads any, and then writes one text.
+use Rattle.std.specs.Prelude.{◌≡◌, ◌⊎◌, List, ℕ, Ok, Err, Result}
+use Rattle.psi_residue.specs.Parameters.{Parameters}
+use Rattle.psi_words.specs.Texts.{help_lines}
 use Rattle.psi_cli.specs.declared.outcome.Outcome.{Outcome}
 use Rattle.psi_cli.specs.declared.status.Status.{Status}
 use Rattle.psi_cli.specs.declared.status.Status.TheVariants as status
-use Rattle.psi_cli.specs.Commands.{word_parameters}
-use Rattle.psi_cli.specs.Outcomes.{Makes}
-use Rattle.psi_cli.specs.Opening.{OpensNothing}
-use Rattle.psi_cli.specs.Reading.{AsksNothing}
-use Rattle.psi_cli.specs.Worlds.{Given, Held, IsCutOff, IsUntouched, IsWritten, NoReadFailed, World}
+use Rattle.psi_cli.specs.Outcomes.{ParamsMake}
+use Rattle.psi_cli.specs.Readers.{HasNoOutcome, HasOutcome, HasReadAll, Reader}
+use Rattle.psi_cli.specs.Worlds.{Given, IsTextCutOff, IsTextWritten, IsUntouched, NothingRead, World}
+use Rattle.psi_outside.specs.Ends.{SinkTold}
 
--- why a command comes to no text, by the status: its parameters are refused, it is given a bad input, a read failed, or memory ran out
-abbrev pub GivesUp : Command → (old new : Given) → Status → Type 0
-GivesUp (command.Ask rows capacity units drop counted seed session number) old new s =
-    AsksNothing (word_parameters rows capacity units drop counted) old.left new.left old.reads_failed new.reads_failed s × (new.files_failed ≡ old.files_failed)
-GivesUp (command.Open rows capacity units drop counted seed name) old new s = OpensNothing (word_parameters rows capacity units drop counted) name old new s
-GivesUp _ old new s = s ≡ status.NoMemory
+-- Such a task: the text that it comes to, with a status; what it has read then; and why it comes to none, with a status.
+pub record Task : Type 1 where
+  pub makes : Given → Status → (text : List ℕ) → Type 0
+  pub reads : (old new : Given) → Type 0
+  pub gives_up : (old new : Given) → Status → Type 0
 
--- the source was read to its end, and no read failed
-pub record HasReadAll (old new : Given) : Type 0 where
-  pub ended : IfSome old.left (λ _. new.left ≡ Some [])
-  pub no_read_failed : NoReadFailed old new
+-- memory ran out, and nothing was read
+pub record HasNoMemory (old new : Given) (s : Status) : Type 0 where
+  pub status_is : s ≡ status.NoMemory
+  pub nothing_read : NothingRead old new
 
--- a command that reads items has read its source to its end, and one that does not has read nothing
-abbrev pub HasRead : Command → (old new : Given) → Type 0
-HasRead (command.Ask rows capacity units drop counted seed session number) old new = HasReadAll old new
-HasRead (command.Open rows capacity units drop counted seed name) old new = HasReadAll old new
-HasRead _ old new = new ≡ old
+-- the help comes to its lines
+pub record HasHelp (s : Status) (text : List ℕ) : Type 0 where
+  pub status_is : s ≡ status.Done
+  pub lines : text ≡ help_lines
 
--- what the command comes to was written, with its status
-pub record HasWritten (c : Command) (old new : World) (s : Status) : Type 0 where
+-- the tasks: a command that reads a text, `params`, and `help`
+abbrev pub reader_task : Reader → Task
+reader_task r = record { makes = HasOutcome r; reads = HasReadAll; gives_up = HasNoOutcome r }
+
+abbrev pub params_task : Parameters → Task
+params_task p = record { makes = λ given s text. ParamsMake p s text; reads = NothingRead; gives_up = HasNoMemory }
+
+abbrev pub help_task : Task
+help_task = record { makes = λ given s text. HasHelp s text; reads = NothingRead; gives_up = HasNoMemory }
+
+-- what the task comes to was written, with its status
+pub record HasWritten (t : Task) (old new : World) (s : Status) : Type 0 where
   pub text : List ℕ
-  pub makes : Makes c old.given.left old.given.files s text
-  pub read : HasRead c old.given new.given
-  pub written : IsWritten text old.held new.held
+  pub makes : t.makes old.given s text
+  pub read : t.reads old.given new.given
+  pub written : IsTextWritten text old.sink new.sink
 
--- what the command comes to, with whatever status, was not written whole
-pub record HasBeenCutOff (c : Command) (old new : World) (s : Status) : Type 0 where
+-- what the task comes to, with whatever status, was not written whole
+pub record HasBeenCutOff (t : Task) (old new : World) (s : Status) : Type 0 where
   pub told : s ≡ status.WriteFault
   pub text : List ℕ
   pub meant : Status
-  pub makes : Makes c old.given.left old.given.files meant text
-  pub read : HasRead c old.given new.given
-  pub cut_off : IsCutOff text old.held new.held
+  pub makes : t.makes old.given meant text
+  pub read : t.reads old.given new.given
+  pub cut_off : IsTextCutOff text old.sink new.sink
 
--- the command gave up, and nothing was written
-pub record HasGivenUp (c : Command) (old new : World) (s : Status) : Type 0 where
-  pub why : GivesUp c old.given new.given s
-  pub untouched : IsUntouched old.held new.held
+-- the task came to nothing, and nothing was written
+pub record HasWrittenNone (t : Task) (old new : World) (s : Status) : Type 0 where
+  pub why : t.gives_up old.given new.given s
+  pub untouched : IsUntouched old.sink new.sink
 
 -- what a run leaves, and its status
-abbrev pub Leaves : Command → World → World → Status → Type 0
-Leaves c old new s = HasWritten c old new s ⊎ (HasBeenCutOff c old new s ⊎ HasGivenUp c old new s)
+abbrev pub LeavesText : Task → World → World → Status → Type 0
+LeavesText t old new s = HasWritten t old new s ⊎ (HasBeenCutOff t old new s ⊎ HasWrittenNone t old new s)
 
 -- how the end of a run writes what was made, if anything was
-abbrev pub Finishes : Result Outcome Status → Held → Held → Status → Type 0
-Finishes (Ok made) old new s = ((s ≡ made.status) × IsWritten made.text.items old new) ⊎ ((s ≡ status.WriteFault) × IsCutOff made.text.items old new)
+abbrev pub Finishes : Result Outcome Status → SinkTold → SinkTold → Status → Type 0
+Finishes (Ok made) old new s =
+    ((s ≡ made.status) × IsTextWritten made.text.items old new)
+    ⊎ ((s ≡ status.WriteFault) × IsTextCutOff made.text.items old new)
 Finishes (Err why) old new s = (s ≡ why) × IsUntouched old new

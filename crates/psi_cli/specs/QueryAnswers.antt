@@ -7,7 +7,7 @@ use Rattle.cuckoo_place.specs.Placements.{IsPlacement}
 use Rattle.psi_residue.specs.Parameters.{Parameters}
 use Rattle.psi_bundle.specs.declared.history.Entry.{Entry}
 use Rattle.psi_bundle.specs.Histories.{AreBytes, version_at}
-use Rattle.psi_bundle.specs.Versions.{Version, empty_version}
+use Rattle.psi_bundle.specs.Versions.{Version}
 use Rattle.query_codec.specs.Queries.{query_ciphertexts}
 use Rattle.psi_frames.specs.declared.request.Request.{Request}
 use Rattle.psi_frames.specs.Requests.{asked_ciphertexts as ciphertexts_asked}
@@ -24,22 +24,18 @@ use Rattle.psi_receiver.specs.Queries.{query_of}
 abbrev pub AsksQuery : Parameters → (seed : List ℕ) → List Placed → Request → Type 0
 AsksQuery p seed xs r = ciphertexts_asked r ≡ query_ciphertexts p (query_of p seed xs)
 
--- the set at a place of a history that began with the empty set
-abbrev pub set_at : Parameters → List Entry → ℕ → Version
-set_at p history place = version_at (empty_version p) history place
-
 -- what a reply body opens to, with the seed and the placed tags of its query
 abbrev pub opened_by : Parameters → (seed : List ℕ) → List Placed → (body : List ℕ) → List Found
 opened_by p seed xs body = opened (opened_reply p seed body) xs
 
 -- The answer to a query of tags with a placement opens to exactly what is found in the bundles of the set at its place: the tags whose
 -- slot values are roots in one bundle, with its labels.
-abbrev pub OpensToFound : Parameters → List Entry → Exchange → Type 0
-OpensToFound p history e =
+abbrev pub OpensToFound : Parameters → (start : Version) → List Entry → Exchange → Type 0
+OpensToFound p start history e =
     (place : ℕ) (body seed : List ℕ) (tags : List (List ℕ)) (places : List ℕ)
     → place_of e.reply ≡ Some place → body_of e.reply ≡ Some body
     → All AreBytes tags → IsPlacement (position_sets p.rows tags) places → AsksQuery p seed (placed_tags tags places) e.request
-    → opened_by p seed (placed_tags tags places) body ≡ found p (set_at p history place).rows (placed_tags tags places)
+    → opened_by p seed (placed_tags tags places) body ≡ found p (version_at start history place).rows (placed_tags tags places)
 
 -- What some found items say of item i and a set: if the set has it, it is found with its label there, and if it is found nowhere, the
 -- set does not have it.
@@ -49,14 +45,14 @@ pub record TellOf (v : Version) (items : List (List ℕ)) (fs : List Found) (i :
 
 -- The same in the user's terms: the answer to a query of items with a placement tells of each of them whether the set at its place has
 -- it.
-abbrev pub TellsOfItems : Parameters → List Entry → Exchange → Type 0
-TellsOfItems p history e =
+abbrev pub TellsOfItems : Parameters → (start : Version) → List Entry → Exchange → Type 0
+TellsOfItems p start history e =
     (place : ℕ) (body seed : List ℕ) (items : List (List ℕ)) (places : List ℕ)
     → place_of e.reply ≡ Some place → body_of e.reply ≡ Some body
     → IsPlacement (position_sets p.rows (map tag_of items)) places → AsksQuery p seed (placed_tags (map tag_of items) places) e.request
-    → (i : ℕ) → i < length items → TellOf (set_at p history place) items (opened_by p seed (placed_tags (map tag_of items) places) body) i
+    → (i : ℕ) → i < length items → TellOf (version_at start history place) items (opened_by p seed (placed_tags (map tag_of items) places) body) i
 
--- the answers among some exchanges do so
-pub record AnswersOpen (p : Parameters) (history : List Entry) (es : List Exchange) : Type 0 where
-  pub found : All (OpensToFound p history) es
-  pub items : All (TellsOfItems p history) es
+-- the answers among some exchanges do so, from a start along a history
+pub record AnswersOpen (p : Parameters) (start : Version) (history : List Entry) (es : List Exchange) : Type 0 where
+  pub found : All (OpensToFound p start history) es
+  pub items : All (TellsOfItems p start history) es

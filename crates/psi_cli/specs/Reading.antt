@@ -1,31 +1,57 @@
--- Why no items are read from a source, and why `ask` comes to nothing.
-use Rattle.std.specs.Prelude.{◌≡◌, ◌⊎◌, ℕ, ◌<◌, ◌≤◌, List, [], length, Option, Some, IfSome, ⊤}
-use Rattle.std.specs.Io.KnownBytes.{Consumes}
-use Rattle.psi_residue.specs.Parameters.{Parameters}
-use Rattle.noise_ledger.specs.Verdicts.{ArePassed}
+-- Reading a text to its end, and why no items are read.
+use Rattle.std.specs.Prelude.{◌≡◌, ◌⊎◌, ℕ, ◌<◌, ◌+◌, List, [], length, Some, IfSome, ⊤}
 use Rattle.psi_outside.specs.Causes.{Rose}
+use Rattle.psi_outside.specs.Ends.{SourceTold}
+use Rattle.psi_outside.specs.Reading.{HasTakenAtMost, piece_size}
 use Rattle.psi_cli.specs.declared.status.Status.{Status}
 use Rattle.psi_cli.specs.declared.status.Status.TheVariants as status
 use Rattle.psi_cli.specs.ItemTexts.{IsItemText, most_item_text}
 
--- a text is tested when it was read to its end, or as soon as it is too long
-abbrev pub IsTested : (left left_now : Option (List ℕ)) → Type 0
-IsTested left left_now = IfSome left (λ bytes. (most_item_text < length bytes) ⊎ (left_now ≡ Some []))
+-- the source was read to its end
+abbrev pub IsEnded : (old new : SourceTold) → Type 0
+IsEnded old new = IfSome old.left (λ _. new.left ≡ Some [])
 
--- no more bytes were taken than a text of items may have
-abbrev pub IsReadWithin : (left left_now : Option (List ℕ)) → Type 0
-IsReadWithin left left_now = (taken : List ℕ) × Consumes left left_now taken × (length taken ≤ most_item_text)
+-- at most so many bytes were taken, or one piece more
+abbrev pub IsReadWithin : (most : ℕ) → (old new : SourceTold) → Type 0
+IsReadWithin most old new = HasTakenAtMost most old.left new.left
 
--- by the status, what the source had and has left, and how often its reads failed: the text is none of items, a read failed, or memory
--- ran out
-abbrev pub HasNoItems : (left left_now : Option (List ℕ)) → (before now : ℕ) → Status → Type 0
-HasNoItems left left_now before now status.BadInput = IfSome left (λ bytes. IsItemText bytes → ⊥) × (now ≡ before) × IsTested left left_now
-HasNoItems left left_now before now status.ReadFault = Rose before now × IsReadWithin left left_now
-HasNoItems left left_now before now status.NoMemory = ⊤
-HasNoItems left left_now before now _ = ⊥
+abbrev pub IsReadAbout : (most : ℕ) → (old new : SourceTold) → Type 0
+IsReadAbout most old new = HasTakenAtMost (most + piece_size) old.left new.left
 
--- the same of `ask`, whose parameters may be refused before anything is read
-abbrev pub AsksNothing : Parameters → (left left_now : Option (List ℕ)) → (before now : ℕ) → Status → Type 0
-AsksNothing p left left_now before now status.Parameters = (ArePassed p → ⊥) × (left_now ≡ left) × (now ≡ before)
-AsksNothing p left left_now before now status.NoMemory = ⊤
-AsksNothing p left left_now before now s = ArePassed p × HasNoItems left left_now before now s
+-- A text of at most so many bytes was read to its end, or is longer: then it is refused with the piece that goes past the limit.
+pub record IsTested (most : ℕ) (old new : SourceTold) : Type 0 where
+  pub told : IfSome old.left (λ bytes. (most < length bytes) ⊎ (new.left ≡ Some []))
+  pub about : IsReadAbout most old new
+
+-- a read failed, behind at most so many bytes
+pub record HasReadFailed (most : ℕ) (old new : SourceTold) : Type 0 where
+  pub failed : Rose old.faults new.faults
+  pub within : IsReadWithin most old new
+
+-- a text that was tested is none of items, and no read failed
+pub record HasNoItemText (old new : SourceTold) : Type 0 where
+  pub no_item_text : IfSome old.left (λ bytes. IsItemText bytes → ⊥)
+  pub no_read_failed : new.faults ≡ old.faults
+  pub tested : IsTested most_item_text old new
+
+-- why no items are read, by the status: the text is none of items, a read failed, or memory ran out
+abbrev pub HasNoItems : (old new : SourceTold) → Status → Type 0
+HasNoItems old new status.BadInput = HasNoItemText old new
+HasNoItems old new status.ReadFault = HasReadFailed most_item_text old new
+HasNoItems old new status.NoMemory = IsReadAbout most_item_text old new
+HasNoItems old new status.Done = ⊥
+HasNoItems old new status.Words = ⊥
+HasNoItems old new status.Parameters = ⊥
+HasNoItems old new status.WriteFault = ⊥
+HasNoItems old new status.Crowded = ⊥
+
+-- why a text has no items, by the status
+abbrev pub IsNoItemText : (text : List ℕ) → Status → Type 0
+IsNoItemText text status.BadInput = IsItemText text → ⊥
+IsNoItemText text status.NoMemory = ⊤
+IsNoItemText text status.Done = ⊥
+IsNoItemText text status.Words = ⊥
+IsNoItemText text status.Parameters = ⊥
+IsNoItemText text status.ReadFault = ⊥
+IsNoItemText text status.WriteFault = ⊥
+IsNoItemText text status.Crowded = ⊥

@@ -14,32 +14,37 @@ status_number status.WriteFault = 6
 status_number status.NoMemory = 7
 status_number status.Crowded = 8
 
+-- a run ended with this status
+abbrev pub Ended : Status → ℕ → Type 0
+Ended s n = n ≡ status_number s
+
 -- the statuses that there are
 abbrev pub IsStatus : ℕ → Type 0
-IsStatus n = (s : Status) × (n ≡ status_number s)
+IsStatus n = (s : Status) × Ended s n
 
--- a bad input, items without a placement, or refused parameters; or else a fault, or memory ran out
-abbrev pub IsBadOrFails : ℕ → Type 0
-IsBadOrFails n = (n ≡ 4) ⊎ ((n ≡ 5) ⊎ ((n ≡ 6) ⊎ (n ≡ 7)))
+-- a fault, or memory ran out
+abbrev pub HasFailed : ℕ → Type 0
+HasFailed n = Ended status.ReadFault n ⊎ (Ended status.WriteFault n ⊎ Ended status.NoMemory n)
 
-abbrev pub IsCrowdedOrFails : ℕ → Type 0
-IsCrowdedOrFails n = (n ≡ 8) ⊎ ((n ≡ 5) ⊎ ((n ≡ 6) ⊎ (n ≡ 7)))
+-- this status, or a fault, or memory ran out
+abbrev pub IsOrFails : Status → ℕ → Type 0
+IsOrFails s n = Ended s n ⊎ HasFailed n
 
+-- refused parameters, or a write that failed, or memory ran out: nothing was read
 abbrev pub IsRefusedOrFails : ℕ → Type 0
-IsRefusedOrFails n = (n ≡ 3) ⊎ ((n ≡ 6) ⊎ (n ≡ 7))
+IsRefusedOrFails n =
+    Ended status.Parameters n ⊎ (Ended status.WriteFault n ⊎ Ended status.NoMemory n)
 
 -- the input was read, and no read failed: done, a bad input, or items without a placement
 abbrev pub IsReadWhole : ℕ → Type 0
-IsReadWhole n = (n ≡ 0) ⊎ ((n ≡ 4) ⊎ (n ≡ 8))
+IsReadWhole n = Ended status.Done n ⊎ (Ended status.BadInput n ⊎ Ended status.Crowded n)
 
 -- nothing is read: no command, or refused parameters
 abbrev pub IsUnreadStatus : ℕ → Type 0
-IsUnreadStatus n = (n ≡ 2) ⊎ (n ≡ 3)
+IsUnreadStatus n = Ended status.Words n ⊎ Ended status.Parameters n
 
 -- no text is written: no command, a bad input, a read that failed, or memory that ran out
 abbrev pub IsEmptyNumber : ℕ → Type 0
-IsEmptyNumber n = (n ≡ 2) ⊎ ((n ≡ 4) ⊎ ((n ≡ 5) ⊎ (n ≡ 7)))
-
--- done, or a fault, or memory ran out: no fault of the input
-abbrev pub IsDoneOrFails : ℕ → Type 0
-IsDoneOrFails n = (n ≡ 0) ⊎ ((n ≡ 5) ⊎ ((n ≡ 6) ⊎ (n ≡ 7)))
+IsEmptyNumber n =
+    Ended status.Words n
+    ⊎ (Ended status.BadInput n ⊎ (Ended status.ReadFault n ⊎ Ended status.NoMemory n))

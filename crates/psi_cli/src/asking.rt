@@ -1,11 +1,15 @@
 //! The command `ask`.
-ghost use Rattle.std.specs.Prelude.{◌≡◌, ◌<◌, ◌^◌, [], Some, map, length, IfOk, OnOk, IfErr, IfSome};
+ghost use Rattle.std.specs.Prelude.{◌≡◌, ◌<◌, ◌^◌, map, length, IfOk, OnOk, IfErr};
 ghost use Rattle.item_slots.specs.Tags.{tag_of};
 ghost use Rattle.noise_ledger.specs.Verdicts.{ArePassed, parameters_of};
 ghost use Rattle.query_codec.specs.Queries.{query_length};
 ghost use Rattle.psi_frames.specs.Frames.{ask_kind, spelled};
 ghost use Rattle.psi_cli.specs.Outcomes.{AskMakes, AsksText};
-ghost use Rattle.psi_cli.specs.Reading.{AsksNothing, HasNoItems};
+ghost use Rattle.psi_outside.specs.Ends.{FilesTold};
+ghost use Rattle.psi_cli.specs.AskAndOpen.{asking};
+ghost use Rattle.psi_cli.specs.Readers.{ReadsNothing};
+ghost use Rattle.psi_cli.specs.Reading.{HasNoItems, IsEnded};
+ghost use Rattle.psi_cli.specs.Worlds.{given};
 
 use crate::outcome::Outcome;
 use crate::reading::{read_items, tags_of};
@@ -38,10 +42,14 @@ pub fn ask_items<R: Threads + Sync, S: Source>(
     input: &mut S,
 ) -> Result<Outcome, Status>
     ensures passed { OnOk result (ArePassed (parameters_of params.now)) }
-    ensures made { IfOk result (λ outcome. AsksText (parameters_of params.now) seed.now address.session address.number (S.left input.old) outcome.status outcome.text.items) }
-    ensures ended { OnOk result (IfSome (S.left input.old) (λ _. S.left input.new ≡ Some [])) }
-    ensures no_read_failed { OnOk result (S.faults input.new ≡ S.faults input.old) }
-    ensures fault { IfErr result (AsksNothing (parameters_of params.now) (S.left input.old) (S.left input.new) (S.faults input.old) (S.faults input.new)) }
+    ensures made { IfOk result (λ outcome.
+        AsksText (parameters_of params.now) seed.now address.session address.number
+        (S.told input.old).left outcome.status outcome.text.items) }
+    ensures ended { OnOk result (IsEnded (S.told input.old) (S.told input.new)) }
+    ensures no_read_failed { OnOk result ((S.told input.new).faults ≡ (S.told input.old).faults) }
+    ensures fault { (files : FilesTold) → IfErr result (ReadsNothing
+        (asking (parameters_of params.now) seed.now address.session address.number)
+        (given (S.told input.old) files) (given (S.told input.new) files)) }
 {
     match check(params) {
         Ok(_) => ask_passed(rt, alloc, params, seed, address, input),
@@ -59,10 +67,12 @@ fn ask_passed<R: Threads + Sync, S: Source>(
     input: &mut S,
 ) -> Result<Outcome, Status>
     requires passed { ArePassed (parameters_of params.now) }
-    ensures made { IfOk result (λ outcome. AsksText (parameters_of params.now) seed.now address.session address.number (S.left input.old) outcome.status outcome.text.items) }
-    ensures ended { OnOk result (IfSome (S.left input.old) (λ _. S.left input.new ≡ Some [])) }
-    ensures no_read_failed { OnOk result (S.faults input.new ≡ S.faults input.old) }
-    ensures fault { IfErr result (HasNoItems (S.left input.old) (S.left input.new) (S.faults input.old) (S.faults input.new)) }
+    ensures made { IfOk result (λ outcome.
+        AsksText (parameters_of params.now) seed.now address.session address.number
+        (S.told input.old).left outcome.status outcome.text.items) }
+    ensures ended { OnOk result (IsEnded (S.told input.old) (S.told input.new)) }
+    ensures no_read_failed { OnOk result ((S.told input.new).faults ≡ (S.told input.old).faults) }
+    ensures fault { IfErr result (HasNoItems (S.told input.old) (S.told input.new)) }
 {
     let items = read_items(alloc, input)?;
     Ok(ask(rt, alloc, params, seed, address, &items)?)
@@ -79,7 +89,9 @@ fn ask<R: Threads + Sync>(
 ) -> Result<Outcome, AllocError>
     requires passed { ArePassed (parameters_of params.now) }
     requires numbered { length items.now < 2 ^ 32 }
-    ensures { IfOk result (λ outcome. AskMakes (parameters_of params.now) seed.now address.session address.number (map (λ item. item.items) items.now) outcome.status outcome.text.items) }
+    ensures { IfOk result (λ outcome.
+        AskMakes (parameters_of params.now) seed.now address.session address.number
+        (map (λ item. item.items) items.now) outcome.status outcome.text.items) }
 {
     let tags = tags_of(alloc, items)?;
     match ask_tags(rt, alloc, params, seed, &tags) {
@@ -105,7 +117,8 @@ fn query_frame(
 ) -> Result<Vec<u8>, AllocError>
     requires passed { ArePassed (parameters_of params.now) }
     requires sized { length query.items ≡ query_length (parameters_of params.now) }
-    ensures { IfOk result (λ text. text.items ≡ spelled ask_kind address.session address.number query.items) }
+    ensures { IfOk result (λ text.
+        text.items ≡ spelled ask_kind address.session address.number query.items) }
 {
     let frame = Frame {
         kind: ASK,

@@ -39,8 +39,7 @@ pub fn demo<R: Threads + Wait + Sync, K: Sink, G: Gate>(
     gate: &G,
 ) -> u8
     requires workers { (1 ≤ workers) × (workers ≤ 8) }
-    ensures { Demonstrates number workers (record { written = K.written output.old; flushed = K.flushed output.old; writes_failed = K.faults output.old })
-        (record { written = K.written output.new; flushed = K.flushed output.new; writes_failed = K.faults output.new }) result }
+    ensures { Demonstrates number workers (K.told output.old) (K.told output.new) result }
 {
     let made = demonstrate(rt, alloc, number, workers, gate);
     finish(made, output).number()
@@ -89,7 +88,8 @@ fn served_script<R: Threads + Wait + Sync, G: Gate>(
     gate: &G,
 ) -> Result<MemorySink, Status>
     requires workers { (1 ≤ workers) × (workers ≤ 8) }
-    ensures served { (frames : List Frame) → AreWholeFrames request_table script.items frames None → IfOk result (λ sink. ServesFrames workers frames sink.written) }
+    ensures served { (frames : List Frame) → AreWholeFrames request_table script.items frames None
+        → IfOk result (λ sink. ServesFrames workers frames sink.written) }
     ensures fault { IfErr result (λ why. why ≡ NoMemory) }
 {
     let mut source = MemorySource::open(script, PIECE, Vec::new(alloc));

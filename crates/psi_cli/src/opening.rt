@@ -1,10 +1,14 @@
 //! The command `open`.
-ghost use Rattle.std.specs.Prelude.{◌≡◌, ◌⊎◌, ◌<◌, ◌^◌, [], Some, map, length, IfOk, OnOk, IfErr, IfSome};
+ghost use Rattle.std.specs.Prelude.{◌≡◌, ◌⊎◌, ◌<◌, ◌^◌, map, length, IfOk, OnOk, IfErr, IfSome};
 ghost use Rattle.noise_ledger.specs.Verdicts.{ArePassed, parameters_of};
 ghost use Rattle.psi_outside.specs.Names.{file_at};
 ghost use Rattle.psi_cli.specs.AnswerFiles.{IsAnswerFile};
 ghost use Rattle.psi_cli.specs.Outcomes.{HasAnswer, OpenMakes, OpensText};
-ghost use Rattle.psi_cli.specs.Opening.{HasNoFile, IsNotOpened, IsUnopened, OpensNothing};
+ghost use Rattle.psi_cli.specs.AskAndOpen.{opening};
+ghost use Rattle.psi_cli.specs.Opening.{HasNoFile, IsUnopened};
+ghost use Rattle.psi_cli.specs.Readers.{ReadsNothing};
+ghost use Rattle.psi_cli.specs.Reading.{IsEnded};
+ghost use Rattle.psi_cli.specs.Worlds.{given};
 
 use crate::answer_file::answer_body;
 use crate::outcome::Outcome;
@@ -33,13 +37,15 @@ pub fn open_file<R: Threads + Sync, S: Source, F: Files>(
     files: &mut F,
 ) -> Result<Outcome, Status>
     ensures passed { OnOk result (ArePassed (parameters_of params.now)) }
-    ensures made { IfOk result (λ outcome. OpensText (parameters_of params.now) seed.now name.now (S.left input.old) (F.files files.old) outcome.status outcome.text.items) }
-    ensures ended { OnOk result (IfSome (S.left input.old) (λ _. S.left input.new ≡ Some [])) }
-    ensures no_read_failed { OnOk result (S.faults input.new ≡ S.faults input.old) }
-    ensures no_file_failed { OnOk result (F.faults files.new ≡ F.faults files.old) }
-    ensures fault { IfErr result (OpensNothing (parameters_of params.now) name.now
-        (record { left = S.left input.old; reads_failed = S.faults input.old; files = F.files files.old; files_failed = F.faults files.old })
-        (record { left = S.left input.new; reads_failed = S.faults input.new; files = F.files files.new; files_failed = F.faults files.new })) }
+    ensures made { IfOk result (λ outcome.
+        OpensText (parameters_of params.now) seed.now name.now
+        (S.told input.old).left (F.told files.old).files outcome.status outcome.text.items) }
+    ensures ended { OnOk result (IsEnded (S.told input.old) (S.told input.new)) }
+    ensures no_read_failed { OnOk result ((S.told input.new).faults ≡ (S.told input.old).faults) }
+    ensures no_file_failed { OnOk result ((F.told files.new).faults ≡ (F.told files.old).faults) }
+    ensures fault { IfErr result (ReadsNothing (opening (parameters_of params.now) seed.now name.now)
+        (given (S.told input.old) (F.told files.old))
+        (given (S.told input.new) (F.told files.new))) }
 {
     match check(params) {
         Ok(_) => open_passed(rt, alloc, params, seed, name, input, files),
@@ -58,13 +64,15 @@ fn open_passed<R: Threads + Sync, S: Source, F: Files>(
     files: &mut F,
 ) -> Result<Outcome, Status>
     requires passed { ArePassed (parameters_of params.now) }
-    ensures made { IfOk result (λ outcome. OpensText (parameters_of params.now) seed.now name.now (S.left input.old) (F.files files.old) outcome.status outcome.text.items) }
-    ensures ended { OnOk result (IfSome (S.left input.old) (λ _. S.left input.new ≡ Some [])) }
-    ensures no_read_failed { OnOk result (S.faults input.new ≡ S.faults input.old) }
-    ensures no_file_failed { OnOk result (F.faults files.new ≡ F.faults files.old) }
-    ensures fault { IfErr result (IsNotOpened (parameters_of params.now) name.now
-        (record { left = S.left input.old; reads_failed = S.faults input.old; files = F.files files.old; files_failed = F.faults files.old })
-        (record { left = S.left input.new; reads_failed = S.faults input.new; files = F.files files.new; files_failed = F.faults files.new })) }
+    ensures made { IfOk result (λ outcome.
+        OpensText (parameters_of params.now) seed.now name.now
+        (S.told input.old).left (F.told files.old).files outcome.status outcome.text.items) }
+    ensures ended { OnOk result (IsEnded (S.told input.old) (S.told input.new)) }
+    ensures no_read_failed { OnOk result ((S.told input.new).faults ≡ (S.told input.old).faults) }
+    ensures no_file_failed { OnOk result ((F.told files.new).faults ≡ (F.told files.old).faults) }
+    ensures fault { IfErr result (ReadsNothing (opening (parameters_of params.now) seed.now name.now)
+        (given (S.told input.old) (F.told files.old))
+        (given (S.told input.new) (F.told files.new))) }
 {
     let items = read_items(alloc, input)?;
     let body = read_answer_file(alloc, name, files)?;
@@ -73,9 +81,10 @@ fn open_passed<R: Threads + Sync, S: Source, F: Files>(
 
 // The reply body of the answer in a file.
 fn read_answer_file<F: Files>(alloc: Global, name: &str, files: &mut F) -> Result<Body, Status>
-    ensures answer { IfOk result (λ body. IfSome (F.files files.old) (λ map. HasAnswer map name.now body)) }
-    ensures no_file_failed { OnOk result (F.faults files.new ≡ F.faults files.old) }
-    ensures fault { IfErr result (HasNoFile (F.files files.old) name.now (F.faults files.old) (F.faults files.new)) }
+    ensures answer { IfOk result (λ body.
+        IfSome (F.told files.old).files (λ map. HasAnswer map name.now body)) }
+    ensures no_file_failed { OnOk result ((F.told files.new).faults ≡ (F.told files.old).faults) }
+    ensures fault { IfErr result (HasNoFile (F.told files.old) (F.told files.new) name.now) }
 {
     match files.read_file(alloc, name, MOST_ANSWER) {
         Ok(file) => match answer_body(alloc, &file)? {
@@ -99,8 +108,11 @@ fn open<R: Threads + Sync>(
 ) -> Result<Outcome, Status>
     requires passed { ArePassed (parameters_of params.now) }
     requires numbered { length items.now < 2 ^ 32 }
-    ensures made { IfOk result (λ outcome. OpenMakes (parameters_of params.now) seed.now (map (λ item. item.items) items.now) body.now outcome.status outcome.text.items) }
-    ensures fault { IfErr result (IsUnopened (parameters_of params.now) (map (λ item. item.items) items.now) body.now) }
+    ensures made { IfOk result (λ outcome.
+        OpenMakes (parameters_of params.now) seed.now (map (λ item. item.items) items.now)
+        body.now outcome.status outcome.text.items) }
+    ensures fault { IfErr result
+        (IsUnopened (parameters_of params.now) (map (λ item. item.items) items.now) body.now) }
 {
     let tags = tags_of(alloc, items)?;
     match open_tags(rt, alloc, params, seed, &tags, body) {

@@ -1,12 +1,12 @@
 //! The commands that one thread does without waiting.
-ghost use Rattle.std.specs.Prelude.{◌≡◌, true, Ok, IfOk, IfErr};
+ghost use Rattle.std.specs.Prelude.{◌≡◌, true, IfOk, IfErr};
 ghost use Rattle.noise_ledger.specs.Verdicts.{parameters_of};
 ghost use Rattle.psi_outside.specs.Ends.{ends};
-ghost use Rattle.psi_words.specs.Texts.{help_lines};
-ghost use Rattle.psi_cli.specs.declared.status.Status.TheVariants.{Done, NoMemory};
-ghost use Rattle.psi_cli.specs.Leaving.{Finishes};
-ghost use Rattle.psi_cli.specs.Runs.{GivesNoPlain, RunsPlain, RunsRounds, given_by};
-ghost use Rattle.psi_cli.specs.Statuses.{IsStatus};
+ghost use Rattle.psi_cli.specs.declared.status.Status.TheVariants.{NoMemory, Words};
+ghost use Rattle.psi_cli.specs.Kinds.{command_kind, kind_by};
+ghost use Rattle.psi_cli.specs.Leaving.{Finishes, HasHelp};
+ghost use Rattle.psi_cli.specs.Runs.{GivesNoPlain, RunsPlain, RunsRounds};
+ghost use Rattle.psi_cli.specs.Statuses.{Ended, IsStatus};
 ghost use Rattle.psi_cli.specs.Worlds.{world};
 
 use crate::asking::{Address, ask_items};
@@ -32,10 +32,11 @@ pub fn run_plain<R: Threads + Sync, S: Source, F: Files, K: Sink>(
     output: &mut K,
 ) -> u8
     ensures statuses { IsStatus result }
-    ensures words { (result ≡ 2 → GivesNoPlain (given_by words.now)) × (GivesNoPlain (given_by words.now) → result ≡ 2) }
-    ensures runs { RunsPlain (given_by words.now)
-        (world (S.left input.old) (S.faults input.old) (F.files files.old) (F.faults files.old) (K.written output.old) (K.flushed output.old) (K.faults output.old))
-        (world (S.left input.new) (S.faults input.new) (F.files files.new) (F.faults files.new) (K.written output.new) (K.flushed output.new) (K.faults output.new)) result }
+    ensures words { (Ended Words result → GivesNoPlain (kind_by words.now))
+        × (GivesNoPlain (kind_by words.now) → Ended Words result) }
+    ensures runs { RunsPlain (kind_by words.now)
+        (world (S.told input.old) (F.told files.old) (K.told output.old))
+        (world (S.told input.new) (F.told files.new) (K.told output.new)) result }
 {
     run_words(rt, alloc, words, input, files, output)
 }
@@ -49,9 +50,9 @@ fn run_words<R: Threads + Sync, S: Source, F: Files, K: Sink>(
     files: &mut F,
     output: &mut K,
 ) -> u8
-    ensures runs { RunsPlain (given_by words.now)
-        (world (S.left input.old) (S.faults input.old) (F.files files.old) (F.faults files.old) (K.written output.old) (K.flushed output.old) (K.faults output.old))
-        (world (S.left input.new) (S.faults input.new) (F.files files.new) (F.faults files.new) (K.written output.new) (K.flushed output.new) (K.faults output.new)) result }
+    ensures runs { RunsPlain (kind_by words.now)
+        (world (S.told input.old) (F.told files.old) (K.told output.old))
+        (world (S.told input.new) (F.told files.new) (K.told output.new)) result }
 {
     match read_words(alloc, words) {
         Ok(command) => run_command(rt, alloc, command, input, files, output),
@@ -69,9 +70,9 @@ fn run_command<R: Threads + Sync, S: Source, F: Files, K: Sink>(
     files: &mut F,
     output: &mut K,
 ) -> u8
-    ensures runs { RunsPlain (Ok command)
-        (world (S.left input.old) (S.faults input.old) (F.files files.old) (F.faults files.old) (K.written output.old) (K.flushed output.old) (K.faults output.old))
-        (world (S.left input.new) (S.faults input.new) (F.files files.new) (F.faults files.new) (K.written output.new) (K.flushed output.new) (K.faults output.new)) result }
+    ensures runs { RunsPlain (command_kind command)
+        (world (S.told input.old) (F.told files.old) (K.told output.old))
+        (world (S.told input.new) (F.told files.new) (K.told output.new)) result }
 {
     match command {
         Command::Serve { .. } | Command::Demo { .. } => Status::Words.number(),
@@ -136,8 +137,8 @@ fn replay<R: Threads + Sync, S: Source, K: Sink>(
     output: &mut K,
 ) -> u8
     ensures { RunsRounds (parameters_of params.now) true
-        (ends (S.left input.old) (S.faults input.old) (K.written output.old) (K.flushed output.old) (K.faults output.old))
-        (ends (S.left input.new) (S.faults input.new) (K.written output.new) (K.flushed output.new) (K.faults output.new)) result }
+        (ends (S.told input.old) (K.told output.old))
+        (ends (S.told input.new) (K.told output.new)) result }
 {
     match check(params) {
         Ok(_) => serve_alone(rt, alloc, params, input, output).status,
@@ -147,7 +148,7 @@ fn replay<R: Threads + Sync, S: Source, K: Sink>(
 
 // The text of `help`.
 fn help(alloc: Global) -> Result<Outcome, Status>
-    ensures made { IfOk result (λ made. (made.status ≡ Done) × (made.text.items ≡ help_lines)) }
+    ensures made { IfOk result (λ made. HasHelp made.status made.text.items) }
     ensures fault { IfErr result (λ why. why ≡ NoMemory) }
 {
     Ok(Outcome {
@@ -158,8 +159,7 @@ fn help(alloc: Global) -> Result<Outcome, Status>
 
 /// Writes what was made, if anything was, and ends with its status.
 pub fn finish<K: Sink>(made: Result<Outcome, Status>, output: &mut K) -> Status
-    ensures { Finishes made (record { written = K.written output.old; flushed = K.flushed output.old; writes_failed = K.faults output.old })
-        (record { written = K.written output.new; flushed = K.flushed output.new; writes_failed = K.faults output.new }) result }
+    ensures { Finishes made (K.told output.old) (K.told output.new) result }
 {
     match made {
         Ok(made) => match write_all(output, &made.text) {

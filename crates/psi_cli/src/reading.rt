@@ -1,9 +1,9 @@
 //! Reading items from a source.
-ghost use Rattle.std.specs.Prelude.{◌≡◌, ◌<◌, ◌≤◌, ◌^◌, nat_le, [], Some, map, length, IfOk, OnOk, IfErr, IfSome};
+ghost use Rattle.std.specs.Prelude.{◌≡◌, ◌<◌, ◌≤◌, ◌^◌, nat_le, map, length, IfOk, OnOk, IfErr, IfSome};
 ghost use Rattle.std.specs.List.{list_all};
 ghost use Rattle.item_slots.specs.Tags.{tag_of};
-ghost use Rattle.psi_cli.specs.ItemTexts.{IsItemText, items_of, most_item};
-ghost use Rattle.psi_cli.specs.Reading.{HasNoItems};
+ghost use Rattle.psi_cli.specs.ItemTexts.{IsItemText, items_of, most_item, most_item_text};
+ghost use Rattle.psi_cli.specs.Reading.{HasNoItems, IsEnded, IsNoItemText, IsReadWithin};
 
 use crate::items::items_of;
 use crate::status::Status;
@@ -17,14 +17,16 @@ const MOST_TEXT: usize = 1048576;
 const MOST_ITEM: usize = 255;
 
 /// The items of the text that a source has left. The text has at most 2^20 bytes and each item at most 255, else it is a
-/// bad input.
+/// bad input. A text that is too long is refused with the piece that goes past its limit, and not read further.
 pub fn read_items<S: Source>(alloc: Global, input: &mut S) -> Result<Vec<Vec<u8>>, Status>
-    ensures items { IfOk result (λ items. IfSome (S.left input.old) (λ bytes. map (λ item. item.items) items.items ≡ items_of bytes)) }
-    ensures text { OnOk result (IfSome (S.left input.old) IsItemText) }
+    ensures items { IfOk result (λ items. IfSome (S.told input.old).left (λ bytes.
+        map (λ item. item.items) items.items ≡ items_of bytes)) }
+    ensures text { OnOk result (IfSome (S.told input.old).left IsItemText) }
     ensures few { IfOk result (λ items. length items.items < 2 ^ 32) }
-    ensures ended { OnOk result (IfSome (S.left input.old) (λ _. S.left input.new ≡ Some [])) }
-    ensures no_read_failed { OnOk result (S.faults input.new ≡ S.faults input.old) }
-    ensures fault { IfErr result (HasNoItems (S.left input.old) (S.left input.new) (S.faults input.old) (S.faults input.new)) }
+    ensures ended { OnOk result (IsEnded (S.told input.old) (S.told input.new)) }
+    ensures within { OnOk result (IsReadWithin most_item_text (S.told input.old) (S.told input.new)) }
+    ensures no_read_failed { OnOk result ((S.told input.new).faults ≡ (S.told input.old).faults) }
+    ensures fault { IfErr result (HasNoItems (S.told input.old) (S.told input.new)) }
 {
     match read_all(alloc, input, MOST_TEXT) {
         Ok(text) => short_items(alloc, &text),
@@ -40,7 +42,7 @@ fn short_items(alloc: Global, text: &[u8]) -> Result<Vec<Vec<u8>>, Status>
     ensures items { IfOk result (λ items. map (λ item. item.items) items.items ≡ items_of text.now) }
     ensures text { OnOk result (IsItemText text.now) }
     ensures few { IfOk result (λ items. length items.items < 2 ^ 32) }
-    ensures fault { IfErr result (HasNoItems (Some text.now) (Some []) 0 0) }
+    ensures fault { IfErr result (IsNoItemText text.now) }
 {
     let items = items_of(alloc, text)?;
     if are_short(&items) {

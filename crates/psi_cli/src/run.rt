@@ -1,18 +1,20 @@
 //! The top call: all that the program does.
-ghost use Rattle.std.specs.Prelude.{◌≡◌, ◌⊎◌, ◌≤◌, ℕ, nat_eq, List, [], Some, IfSome};
+ghost use Rattle.std.specs.Prelude.{◌≡◌, ◌≤◌, ℕ, List};
 ghost use Rattle.std.specs.Io.KnownBytes.{Appends};
 ghost use Rattle.noise_ledger.specs.Verdicts.{parameters_of};
 ghost use Rattle.psi_outside.specs.Causes.{Rose};
 ghost use Rattle.psi_outside.specs.Ends.{ends};
 ghost use Rattle.psi_words.specs.Texts.{help_lines};
-ghost use Rattle.psi_cli.specs.declared.status.Status.TheVariants.{Done};
-ghost use Rattle.psi_cli.specs.Answered.{AreRefused, IfAsk, IfCrowded, IfDemo, IfHelp, IfNoRounds, IfOneLane, IfOpen, IfParams, IfRounds, IsAnswered, IsBadInput, IsOneLaneAnswer, IsReading, IsToldBad, IsToldCrowded, IsToldGood};
+ghost use Rattle.psi_cli.specs.declared.status.Status.TheVariants.{BadInput, Crowded, Done, Parameters, ReadFault, Words, WriteFault};
+ghost use Rattle.psi_cli.specs.Answered.{AreRefused, IfCrowded, IfDemo, IfFigures, IfHelp, IfNoReading, IfNoRounds, IfOneLane, IfReads, IfRounds, IsBadInput, IsReading, IsToldBad, IsToldCrowded, IsToldGood};
 ghost use Rattle.psi_cli.specs.Demonstrations.{IsDemonstration};
-ghost use Rattle.psi_cli.specs.ItemTexts.{items_of};
-ghost use Rattle.psi_cli.specs.Outcomes.{AreFigures, IsAskFrame, IsRefusal, OpensFile};
-ghost use Rattle.psi_cli.specs.Runs.{GivesNone, IsAllowed, Runs, RunsRounds, RunsThreads, Shows, given_by};
-ghost use Rattle.psi_cli.specs.Statuses.{IsBadOrFails, IsCrowdedOrFails, IsDoneOrFails, IsEmptyNumber, IsReadWhole, IsRefusedOrFails, IsStatus, IsUnreadStatus};
-ghost use Rattle.psi_cli.specs.Worlds.{IsFlushedSo, world};
+ghost use Rattle.psi_cli.specs.Headline.{AnswersInput, AnswersOnOneLane, Headline};
+ghost use Rattle.psi_cli.specs.Kinds.{Lanes, is_alone, kind_by};
+ghost use Rattle.psi_cli.specs.Outcomes.{AreFigures, IsRefusal};
+ghost use Rattle.psi_cli.specs.Reading.{IsEnded, IsTested};
+ghost use Rattle.psi_cli.specs.Runs.{GivesNone, IsAllowed, Runs, RunsRounds, RunsThreads, Shows};
+ghost use Rattle.psi_cli.specs.Statuses.{Ended, IsEmptyNumber, IsOrFails, IsReadWhole, IsRefusedOrFails, IsStatus, IsUnreadStatus};
+ghost use Rattle.psi_cli.specs.Worlds.{IsFlushedSo, NoReadFailed, NothingRead, ReadFailed, given, world};
 
 use crate::demonstration::demo;
 use crate::plain::run_plain;
@@ -55,39 +57,69 @@ pub fn psi_run<R: Threads + Wait + Sync, S: Source, F: Files, K: Sink, G: Gate>(
     gate: &G,
 ) -> u8
     ensures statuses { IsStatus result }
-    ensures runs { Runs (given_by words.now)
-        (world (S.left input.old) (S.faults input.old) (F.files files.old) (F.faults files.old) (K.written output.old) (K.flushed output.old) (K.faults output.old))
-        (world (S.left input.new) (S.faults input.new) (F.files files.new) (F.faults files.new) (K.written output.new) (K.flushed output.new) (K.faults output.new)) result }
-    ensures words { (result ≡ 2 → GivesNone (given_by words.now)) × (GivesNone (given_by words.now) → result ≡ 2) }
-    ensures refused { result ≡ 3 → AreRefused (given_by words.now) }
-    ensures refused_only { AreRefused (given_by words.now) → IsRefusedOrFails result }
-    ensures refusal { result ≡ 3 → IfParams (given_by words.now) (λ p. (text : List ℕ) × IsRefusal p text × Appends (K.written output.old) (K.written output.new) text) }
-    ensures figures { result ≡ 0 → IfParams (given_by words.now) (λ p. (text : List ℕ) × AreFigures p text × Appends (K.written output.old) (K.written output.new) text) }
-    ensures helped { result ≡ 0 → IfHelp (given_by words.now) (Appends (K.written output.old) (K.written output.new) help_lines) }
-    ensures answered { result ≡ 0 → IfRounds (given_by words.now) (λ p alone. IfSome (S.left input.old) (λ bytes. (text : List ℕ) × IsAnswered p alone bytes text × Appends (K.written output.old) (K.written output.new) text)) }
-    ensures one_lane { result ≡ 0 → IfOneLane (given_by words.now) (λ p. IfSome (S.left input.old) (λ bytes. (text : List ℕ) × IsOneLaneAnswer p bytes text × Appends (K.written output.old) (K.written output.new) text)) }
-    ensures served { IfRounds (given_by words.now) (λ p alone. RunsRounds p alone
-        (ends (S.left input.old) (S.faults input.old) (K.written output.old) (K.flushed output.old) (K.faults output.old))
-        (ends (S.left input.new) (S.faults input.new) (K.written output.new) (K.flushed output.new) (K.faults output.new)) result) }
-    ensures asked { result ≡ 0 → IfAsk (given_by words.now) (λ p seed session number. IfSome (S.left input.old) (λ bytes. (text : List ℕ) × IsAskFrame p seed session number (items_of bytes) text × Appends (K.written output.old) (K.written output.new) text)) }
-    ensures opened { result ≡ 0 → IfOpen (given_by words.now) (λ p seed name. IfSome (S.left input.old) (λ bytes. IfSome (F.files files.old) (λ known. (text : List ℕ) × OpensFile p seed (items_of bytes) known name Done text × Appends (K.written output.old) (K.written output.new) text))) }
-    ensures demonstrated { result ≡ 0 → IfDemo (given_by words.now) (λ number workers. (text : List ℕ) × IsDemonstration number workers text × Appends (K.written output.old) (K.written output.new) text) }
-    ensures shown { IfDemo (given_by words.now) (λ number workers. Shows number workers
-        (ends (S.left input.old) (S.faults input.old) (K.written output.old) (K.flushed output.old) (K.faults output.old))
-        (ends (S.left input.new) (S.faults input.new) (K.written output.new) (K.flushed output.new) (K.faults output.new)) result) }
-    ensures ended { result ≡ 0 → IsReading (given_by words.now) → IfSome (S.left input.old) (λ _. S.left input.new ≡ Some []) }
-    ensures complete { IsToldGood (given_by words.now) (S.left input.old) (F.files files.old) → IsDoneOrFails result }
-    ensures bad { result ≡ 4 → IsBadInput (given_by words.now) (S.left input.old) (F.files files.old) }
-    ensures bad_only { IsToldBad (given_by words.now) (S.left input.old) (F.files files.old) → IsBadOrFails result }
-    ensures crowded { result ≡ 8 → IfCrowded (given_by words.now) (S.left input.old) (F.files files.old) (Appends (K.written output.old) (K.written output.new)) }
-    ensures crowded_only { IsToldCrowded (given_by words.now) (S.left input.old) (F.files files.old) → IsCrowdedOrFails result }
-    ensures read { result ≡ 5 → Rose (S.faults input.old) (S.faults input.new) ⊎ Rose (F.faults files.old) (F.faults files.new) }
-    ensures write { result ≡ 6 → Rose (K.faults output.old) (K.faults output.new) }
-    ensures flushed { result ≡ 0 → IsFlushedSo (record { written = K.written output.old; flushed = K.flushed output.old; writes_failed = K.faults output.old }) (record { written = K.written output.new; flushed = K.flushed output.new; writes_failed = K.faults output.new }) }
-    ensures no_write_failed { result ≡ 0 → K.faults output.new ≡ K.faults output.old }
-    ensures no_read_failed { IsReadWhole result → (S.faults input.new ≡ S.faults input.old) × (F.faults files.new ≡ F.faults files.old) }
-    ensures unread { IsUnreadStatus result → S.left input.new ≡ S.left input.old }
-    ensures unwritten { IsEmptyNumber result → IfNoRounds (given_by words.now) (K.written output.new ≡ K.written output.old) }
+    ensures runs { Runs (kind_by words.now)
+        (world (S.told input.old) (F.told files.old) (K.told output.old))
+        (world (S.told input.new) (F.told files.new) (K.told output.new)) result }
+    ensures words { (Ended Words result → GivesNone (kind_by words.now))
+        × (GivesNone (kind_by words.now) → Ended Words result) }
+    ensures headline { Ended Done result → IfRounds (kind_by words.now) (λ p alone. Headline p alone
+        (world (S.told input.old) (F.told files.old) (K.told output.old))
+        (world (S.told input.new) (F.told files.new) (K.told output.new))) }
+    ensures answered { Ended Done result → IfRounds (kind_by words.now) (λ p alone. AnswersInput p alone
+        (S.told input.old) (K.told output.old) (K.told output.new)) }
+    ensures one_lane { Ended Done result → IfOneLane (kind_by words.now) (λ p. AnswersOnOneLane p
+        (S.told input.old) (K.told output.old) (K.told output.new)) }
+    ensures served { IfRounds (kind_by words.now) (λ p alone. RunsRounds p alone
+        (ends (S.told input.old) (K.told output.old))
+        (ends (S.told input.new) (K.told output.new)) result) }
+    ensures refused { Ended Parameters result → AreRefused (kind_by words.now) }
+    ensures refused_only { AreRefused (kind_by words.now) → IsRefusedOrFails result }
+    ensures refusal { Ended Parameters result → IfFigures (kind_by words.now) (λ p.
+        (text : List ℕ) × IsRefusal p text
+        × Appends (K.told output.old).written (K.told output.new).written text) }
+    ensures figures { Ended Done result → IfFigures (kind_by words.now) (λ p.
+        (text : List ℕ) × AreFigures p text
+        × Appends (K.told output.old).written (K.told output.new).written text) }
+    ensures helped { Ended Done result → IfHelp (kind_by words.now)
+        (Appends (K.told output.old).written (K.told output.new).written help_lines) }
+    ensures made { Ended Done result → IfReads (kind_by words.now) (λ reader.
+        (text : List ℕ) × reader.makes (given (S.told input.old) (F.told files.old)) Done text
+        × Appends (K.told output.old).written (K.told output.new).written text) }
+    ensures demonstrated { Ended Done result → IfDemo (kind_by words.now) (λ number workers.
+        (text : List ℕ) × IsDemonstration number workers text
+        × Appends (K.told output.old).written (K.told output.new).written text) }
+    ensures shown { IfDemo (kind_by words.now) (λ number workers. Shows number workers
+        (ends (S.told input.old) (K.told output.old))
+        (ends (S.told input.new) (K.told output.new)) result) }
+    ensures ended { Ended Done result → IsReading (kind_by words.now)
+        → IsEnded (S.told input.old) (S.told input.new) }
+    ensures complete { IsToldGood (kind_by words.now) (given (S.told input.old) (F.told files.old))
+        → IsOrFails Done result }
+    ensures bad { Ended BadInput result
+        → IsBadInput (kind_by words.now) (given (S.told input.old) (F.told files.old)) }
+    ensures bad_only { IsToldBad (kind_by words.now) (given (S.told input.old) (F.told files.old))
+        → IsOrFails BadInput result }
+    ensures bad_soon { Ended BadInput result → IfReads (kind_by words.now) (λ reader.
+        IsTested reader.most (S.told input.old) (S.told input.new)) }
+    ensures crowded { Ended Crowded result
+        → IfCrowded (kind_by words.now) (given (S.told input.old) (F.told files.old))
+        (Appends (K.told output.old).written (K.told output.new).written) }
+    ensures crowded_only { IsToldCrowded (kind_by words.now) (given (S.told input.old) (F.told files.old))
+        → IsOrFails Crowded result }
+    ensures read { Ended ReadFault result → ReadFailed
+        (given (S.told input.old) (F.told files.old)) (given (S.told input.new) (F.told files.new)) }
+    ensures write { Ended WriteFault result → Rose (K.told output.old).faults (K.told output.new).faults }
+    ensures flushed { Ended Done result → IsFlushedSo (K.told output.old) (K.told output.new) }
+    ensures no_write_failed { Ended Done result
+        → (K.told output.new).faults ≡ (K.told output.old).faults }
+    ensures no_read_failed { IsReadWhole result → NoReadFailed
+        (given (S.told input.old) (F.told files.old)) (given (S.told input.new) (F.told files.new)) }
+    ensures unread { IsUnreadStatus result → NothingRead
+        (given (S.told input.old) (F.told files.old)) (given (S.told input.new) (F.told files.new)) }
+    ensures no_reading { IfNoReading (kind_by words.now) (NothingRead
+        (given (S.told input.old) (F.told files.old)) (given (S.told input.new) (F.told files.new))) }
+    ensures unwritten { IsEmptyNumber result → IfNoRounds (kind_by words.now)
+        ((K.told output.new).written ≡ (K.told output.old).written) }
 {
     run_words(rt, alloc, words, input, files, output, gate)
 }
@@ -102,9 +134,9 @@ fn run_words<R: Threads + Wait + Sync, S: Source, F: Files, K: Sink, G: Gate>(
     output: &mut K,
     gate: &G,
 ) -> u8
-    ensures runs { Runs (given_by words.now)
-        (world (S.left input.old) (S.faults input.old) (F.files files.old) (F.faults files.old) (K.written output.old) (K.flushed output.old) (K.faults output.old))
-        (world (S.left input.new) (S.faults input.new) (F.files files.new) (F.faults files.new) (K.written output.new) (K.flushed output.new) (K.faults output.new)) result }
+    ensures runs { Runs (kind_by words.now)
+        (world (S.told input.old) (F.told files.old) (K.told output.old))
+        (world (S.told input.new) (F.told files.new) (K.told output.new)) result }
 {
     match threaded_by(alloc, words) {
         Some(asked) => run_threads(rt, alloc, &asked, input, output, gate),
@@ -123,8 +155,8 @@ fn run_threads<R: Threads + Wait + Sync, S: Source, K: Sink, G: Gate>(
 ) -> u8
     requires allowed { IsAllowed asked.now }
     ensures { RunsThreads asked.now
-        (ends (S.left input.old) (S.faults input.old) (K.written output.old) (K.flushed output.old) (K.faults output.old))
-        (ends (S.left input.new) (S.faults input.new) (K.written output.new) (K.flushed output.new) (K.faults output.new)) result }
+        (ends (S.told input.old) (K.told output.old))
+        (ends (S.told input.new) (K.told output.new)) result }
 {
     match asked {
         Threaded::Serve { params, shape } => serve_rounds(
@@ -146,9 +178,10 @@ fn serve_rounds<R: Threads + Wait + Sync, S: Source, K: Sink, G: Gate>(
 ) -> u8
     requires workers { (1 ≤ shape.workers) × (shape.workers ≤ 8) }
     requires builders { shape.builders ≤ 4 }
-    ensures { RunsRounds (parameters_of params.now) (nat_eq shape.workers 1)
-        (ends (S.left input.old) (S.faults input.old) (K.written output.old) (K.flushed output.old) (K.faults output.old))
-        (ends (S.left input.new) (S.faults input.new) (K.written output.new) (K.flushed output.new) (K.faults output.new)) result }
+    ensures { RunsRounds (parameters_of params.now)
+        (is_alone (Lanes.Threads shape.workers shape.builders))
+        (ends (S.told input.old) (K.told output.old))
+        (ends (S.told input.new) (K.told output.new)) result }
 {
     match check(params) {
         Ok(_) => serve(rt, alloc, params, shape, input, output, gate).status,

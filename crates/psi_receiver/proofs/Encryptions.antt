@@ -14,7 +14,7 @@ use Rattle.bfv_core.specs.Encryptions.{IsKey, Carries}
 use Rattle.bfv_core.specs.EncryptedLists.{key_of_seed, hidden, encrypted, first_mask, second_mask}
 use Rattle.psi_residue.proofs.Polynomials.{IsPolynomial-table}
 use Rattle.bfv_core.proofs.Carrying.{carries-encrypted}
-use Rattle.query_codec.specs.Queries.{encrypted_powers as body_ciphertexts, query_length}
+use Rattle.query_codec.specs.Queries.{query_ciphertexts, query_length}
 use Rattle.query_codec.proofs.QueryBodies.{IsQuery-written, query_read_back}
 use Rattle.psi_receiver.specs.declared.placement.Placed.{Placed}
 use Rattle.psi_receiver.specs.Queries.{IsQueryOf, query_ciphertext, encrypted_powers, query_of}
@@ -84,7 +84,7 @@ whole-query : (p : Parameters) (seed : List ℕ) (placed : List Placed) → All 
 unfolding encrypted_powers query_ciphertext
 whole-query p seed placed = All-map IsCiphertext (query_ciphertext p.capacity seed placed) (range_with_len 0 (p.rows * p.capacity)) (λ k d lt. encrypted-ciphertext seed _ _)
 
-pub query-read : (p : Parameters) (seed : List ℕ) (placed : List Placed) → body_ciphertexts p (query_of p seed placed) ≡ encrypted_powers p seed placed
+pub query-read : (p : Parameters) (seed : List ℕ) (placed : List Placed) → query_ciphertexts p (query_of p seed placed) ≡ encrypted_powers p seed placed
 query-read p seed placed = query_read_back p (encrypted_powers p seed placed) (whole-query p seed placed) (length-query p seed placed)
 
 -- the query of tags has the length of a query

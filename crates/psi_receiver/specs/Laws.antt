@@ -9,7 +9,7 @@ use Rattle.noise_ledger.specs.Verdicts.{ArePassed}
 use Rattle.psi_bundle.specs.declared.member.Member.{Member}
 use Rattle.psi_bundle.specs.Histories.{AreBytes, HoldBytes}
 use Rattle.psi_bundle.specs.Versions.{Row, Version, IsSound}
-use Rattle.query_codec.specs.Queries.{encrypted_powers as body_ciphertexts}
+use Rattle.query_codec.specs.Queries.{query_ciphertexts}
 use Rattle.query_codec.specs.Replies.{reply_body}
 use Rattle.psi_receiver.specs.declared.found.Found.{Found}
 use Rattle.psi_receiver.specs.declared.placement.Placed.{Placed}
@@ -28,7 +28,7 @@ opened_from v seed placed_tags = opened (opened_reply v.parameters seed (reply_t
 
 -- What is read from a query's body are the query's ciphertexts.
 abbrev pub QueriesAreRead : Type 0
-QueriesAreRead = (p : Parameters) (seed : List ℕ) (placed_tags : List Placed) → body_ciphertexts p (query_of p seed placed_tags) ≡ encrypted_powers p seed placed_tags
+QueriesAreRead = (p : Parameters) (seed : List ℕ) (placed_tags : List Placed) → query_ciphertexts p (query_of p seed placed_tags) ≡ encrypted_powers p seed placed_tags
 
 -- Of a sound version the reply to a query of tags, with any placement, opens to what is found there.
 abbrev pub OpenedIsFound : Type 0
