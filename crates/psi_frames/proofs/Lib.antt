@@ -18,3 +18,4 @@ pub mod Counting
 pub mod Readings
 pub mod RoundRequests
 pub mod ReplyLaws
+pub mod Sending

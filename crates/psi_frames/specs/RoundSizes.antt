@@ -20,3 +20,8 @@ pub record IsSizeOf (size : Sizes) (frames : List Frame) : Type 0 where
   pub go : size.go ≡ list_any is_go frames
   pub number : size.frames ≡ min (length frames) most_counted
   pub bytes : size.bytes ≡ min (length (frames_bytes frames)) most_counted
+
+-- The size of a round's frames: whether there is a Go frame, and the number of their bytes, which stands still at its type's end.
+pub record HasSize (has_go : Bool) (size : ℕ) (frames : List Frame) : Type 0 where
+  pub go : has_go ≡ list_any is_go frames
+  pub bytes : size ≡ min (length (frames_bytes frames)) most_counted

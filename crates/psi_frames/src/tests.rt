@@ -158,18 +158,22 @@ fn a_reply_is_read_from_its_frame(rt: HostRuntime) {
 
 #[test]
 fn a_round_is_full_with_its_last_frame(rt: HostRuntime) {
+    let alloc = rt.alloc();
     for (kind, count, want) in [
         (3, 0, false),
         (3, 4095, false),
         (3, 4096, true),
         (5, 1, true),
     ] {
-        let frame = frame(rt.alloc(), kind, 0).expect(&rt, "memory");
-        let mut size = RoundSize::new();
+        let mut round = OpenRound::new(alloc);
+        assert!(rt; round.is_empty());
         for _ in 0..count {
-            size.push(&frame);
+            let frame = frame(alloc, kind, 0).expect(&rt, "memory");
+            assert!(rt; round.push(frame).is_ok());
         }
-        assert_eq!(rt; size.is_full(), want, "{count} of kind {kind}");
+        assert_eq!(rt; round.is_full(), want, "{count} of kind {kind}");
+        assert_eq!(rt; round.take(alloc).len(), count);
+        assert!(rt; round.is_empty());
     }
 }
 
@@ -195,6 +199,11 @@ fn the_requests_of_a_round(rt: HostRuntime) {
     no_request_begins_another();
     let requests = requests_of_round(alloc, &params, frames).expect(&rt, "memory");
     assert_eq!(rt; requests.len(), 1);
+    let addresses = addresses_of(alloc, &requests).expect(&rt, "memory");
+    let mut replies = Vec::new(alloc);
+    assert!(rt; replies.push(Reply::Refused { code: 7 }).is_ok());
+    let text = text_of(alloc, &addresses, &replies).expect(&rt, "memory");
+    assert!(rt; text.as_slice() == b"\x00\x00\x00\x08\x89\x00\x01\x00\x00\x00\x01\x07".as_slice());
     assert!(rt;
         matches!(
             requests[0],
