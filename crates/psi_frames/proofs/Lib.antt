@@ -19,3 +19,8 @@ pub mod Readings
 pub mod RoundRequests
 pub mod ReplyLaws
 pub mod Sending
+pub mod FirstRounds
+pub mod Pairs
+pub mod Places
+pub mod Renumbered
+pub mod Joins

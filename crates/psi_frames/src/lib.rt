@@ -19,7 +19,6 @@ mod open_round;
 mod reply;
 mod request;
 mod round_requests;
-mod round_size;
 #[cfg(test)]
 mod tests;
 mod texts;
@@ -38,6 +37,5 @@ pub use crate::open_round::OpenRound;
 pub use crate::reply::Reply;
 pub use crate::request::{Request, read_request};
 pub use crate::round_requests::requests_of_round;
-pub use crate::round_size::RoundSize;
 pub use crate::texts::{Address, addresses_of, text_of};
 pub use crate::writing::{append_answer, write_answer, write_request};

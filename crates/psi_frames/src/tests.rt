@@ -2,7 +2,6 @@
 ghost use Rattle.std.specs.Prelude.{◌≡◌, ◌<◌, vec_len, replicate, IfOk};
 ghost use Rattle.std.specs.List.{All};
 ghost use Rattle.psi_frames.specs.Frames.{IsFrame, request_table};
-ghost use Rattle.psi_frames.specs.Rounds.{IsRound};
 
 use super::*;
 use noise_ledger::{Params, check};
@@ -180,7 +179,6 @@ fn a_round_is_full_with_its_last_frame(rt: HostRuntime) {
 // A round of one Drop of the empty item.
 fn one_drop(alloc: Global) -> Result<Vec<Frame>, AllocError>
     ensures each { IfOk result (λ frames. All (IsFrame request_table) frames.items) }
-    ensures round { IfOk result (λ frames. IsRound frames.items) }
     ensures one { IfOk result (λ frames. vec_len frames ≡ 1) }
 {
     let mut frames = Vec::new(alloc);
@@ -197,7 +195,7 @@ fn the_requests_of_a_round(rt: HostRuntime) {
     let text = write_request(alloc, &frames[0]).expect(&rt, "memory");
     assert!(rt; text.as_slice() == b"\x00\x00\x00\x08\x02\x00\x01\x00\x00\x00\x01\x00".as_slice());
     no_request_begins_another();
-    let requests = requests_of_round(alloc, &params, frames).expect(&rt, "memory");
+    let requests = requests_of_round(alloc, &params, 0, frames).expect(&rt, "memory");
     assert_eq!(rt; requests.len(), 1);
     let addresses = addresses_of(alloc, &requests).expect(&rt, "memory");
     let mut replies = Vec::new(alloc);

@@ -15,7 +15,6 @@ use Rattle.psi_frames.specs.Requests.{requests_from}
 use Rattle.psi_frames.specs.Rounds.{AreRounds, IsRound, is_full, request_rounds}
 use Rattle.psi_frames.specs.Served.{IsOneLane, IsServed, Sent, exchanges, requests_of, text_of}
 use Rattle.psi_frames.specs.Feeds.{Feeding, HasFed, IsCut}
-use Rattle.psi_frames.specs.RoundSizes.{IsSizeOf as HasCounted, Sizes}
 use Rattle.query_pool.specs.declared.round.Served.{Served}
 use Rattle.psi_serve.specs.declared.run.Run.{Run}
 use Rattle.psi_serve.specs.declared.stop.Stop.{Stop}
@@ -31,18 +30,17 @@ pub record Sunk : Type 0 where
 abbrev pub sunk : Option (List ℕ) → Option ℕ → ℕ → Sunk
 sunk written flushed failed = record { written = written; flushed = flushed; failed = failed }
 
--- A run: whether it answers as one lane does, its journal, the frames of the round that has begun, their size, and what was counted.
+-- A run: whether it answers as one lane does, its journal, the frames of the round that has begun, and what was counted.
 pub record Line : Type 0 where
   pub alone : Bool
   pub journal : List Entry
   pub waiting : List Frame
-  pub size : Sizes
   pub entries : ℕ
   pub replies : ℕ
 
 abbrev pub line_of : {A : Type 0} → (A → Bool) → (A → List Entry) → Run A → Line
 line_of alone journal run =
-    record { alone = alone run.answers; journal = journal run.answers; waiting = run.waiting.items; size = run.size; entries = run.entries; replies = run.replies }
+    record { alone = alone run.answers; journal = journal run.answers; waiting = run.waiting; entries = run.entries; replies = run.replies }
 
 -- the frames of some rounds
 abbrev pub frames_of : List (List Frame) → List Frame
@@ -61,7 +59,6 @@ pub record HasGoneOn (p : Parameters) (old new : Line) (before now : Sunk) : Typ
   pub answers : AnswersRound p old.alone old.journal new.journal old.waiting next
   pub alone : new.alone ≡ old.alone
   pub none_waits : new.waiting ≡ []
-  pub size : HasCounted new.size []
   pub written : Appends before.written now.written (text_of next)
   pub flushed : IsAllFlushed now.written now.flushed
   pub no_write_failed : now.failed ≡ before.failed
@@ -102,8 +99,7 @@ with_frame line f = record line { waiting = line.waiting ++ f ∷ [] }
 
 -- the frame waits, and the round is not full
 pub record HasWaited (old new : Line) (f : Frame) (before now : Sunk) : Type 0 where
-  pub waits : new ≡ record (with_frame old f) { size = new.size }
-  pub size : HasCounted new.size (old.waiting ++ f ∷ [])
+  pub waits : new ≡ with_frame old f
   pub not_full : IsFalse (is_full (old.waiting ++ f ∷ []))
   pub untouched : now ≡ before
 
@@ -147,7 +143,6 @@ pub record Stands (p : Parameters) (old : Sunk) (bytes : List ℕ) (feed : Feedi
   pub requests : feed.replies ≡ false
   pub full : AreFull rounds
   pub open_round : IsOpen line.waiting
-  pub size : HasCounted line.size line.waiting
   pub answered : HasAnswered p line rounds sents old now
 
 -- it does so behind some bytes
@@ -241,7 +236,6 @@ sunk_of e = record { written = e.written; flushed = e.flushed; failed = e.writes
 pub record IsNew (line : Line) : Type 0 where
   pub journal : line.journal ≡ []
   pub none_waits : line.waiting ≡ []
-  pub size : HasCounted line.size []
   pub entries : line.entries ≡ 0
   pub replies : line.replies ≡ 0
 
