@@ -3,6 +3,7 @@ use Rattle.std.specs.Prelude.{◌≡◌, ◌⊎◌, ℕ, ◌<◌, ◌≤◌, Boo
 use Rattle.item_slots.specs.Tags.{tag_of}
 use Rattle.cuckoo_place.specs.Placements.{HasNoPlacement}
 use Rattle.psi_residue.specs.Parameters.{Parameters}
+use Rattle.psi_bundle.specs.Versions.{empty_version}
 use Rattle.noise_ledger.specs.Verdicts.{ArePassed}
 use Rattle.query_codec.specs.Replies.{IsReply}
 use Rattle.psi_outside.specs.Names.{FileMap}

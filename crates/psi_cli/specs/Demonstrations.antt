@@ -1,5 +1,6 @@
 -- What the demonstration comes to, and what it leaves.
-use Rattle.std.specs.Prelude.{◌≡◌, ℕ, List, ⊤}
+use Rattle.std.specs.Prelude.{◌≡◌, ℕ, List, [], ⊤}
+use Rattle.psi_bundle.specs.Versions.{empty_version}
 use Rattle.psi_frames.specs.declared.frame.Frame.{Frame}
 use Rattle.psi_frames.specs.Served.{IsOneLaneTextOf, IsServingTextOf}
 use Rattle.psi_demo.specs.Items.{asked_tags, demo_parameters}

@@ -23,7 +23,8 @@ use Rattle.psi_frames.proofs.Each.{each-append}
 use Rattle.psi_frames.specs.Feeds.{Feeding, HasFed, IsCut, table_of}
 use Rattle.psi_serve.specs.declared.stop.Stop.{Stop}
 use Rattle.psi_serve.specs.declared.stop.Stop.TheVariants.{BadInput, ReadFault, WriteFault, NoMemory}
-use Rattle.psi_serve.specs.Runs.{AnswersRound, AreFull, BeginWithRounds, HasAnswered, HasAnsweredAll, HasGivenUp, HasGoneOn, HasWaited, IsHalted, IsOpen, LastStops, Line, RoundStops, Stands, StopsAt, Sunk, TakeStops, Takes, frames_of, with_frame}
+use Rattle.psi_outside.specs.Ends.{SinkTold}
+use Rattle.psi_serve.specs.Runs.{AnswersRound, AreFull, BeginWithRounds, HasAnswered, HasAnsweredAll, HasGivenUp, HasGoneOn, HasWaited, IsHalted, IsOpen, LastStops, Line, RoundStops, Stands, StopsAt, TakeStops, Takes, frames_of, with_frame}
 use Rattle.psi_serve.proofs.Fewer.{frames-fewer, replies-fewer}
 use Rattle.psi_frames.proofs.Joins.{round_joins, round_joins_lane}
 
@@ -35,7 +36,7 @@ pub frames-more : (rounds : List (List Frame)) (round : List Frame) → frames_o
 frames-more rounds round = flat_map-append (λ (r : List Frame). r) rounds (round ∷ []) ∙ ap (λ (fs : List Frame). frames_of rounds ++ fs) (append-nil round)
 
 -- one round more is served
-module _ (p : Parameters) (line : Line) (rounds : List (List Frame)) (sents next : List Sent) (old before : Sunk) (after : List Entry) (had : HasAnswered p line rounds sents old before)
+module _ (p : Parameters) (line : Line) (rounds : List (List Frame)) (sents next : List Sent) (old before : SinkTold) (after : List Entry) (had : HasAnswered p line rounds sents old before)
     (answers : AnswersRound p line.alone line.journal after line.waiting next) where
   pub served-more : IsServed p (empty_version p) [] after (request_rounds p (rounds ++ line.waiting ∷ [])) (sents ++ next)
   served-more =
@@ -56,7 +57,7 @@ module _ (p : Parameters) (line : Line) (rounds : List (List Frame)) (sents next
       (each-append HasByteCode (requests_of rs) last had.codes answers.codes))
 
 -- one round more is answered
-pub answered-more : (p : Parameters) (line new : Line) (rounds : List (List Frame)) (sents : List Sent) (old before now : Sunk) → HasAnswered p line rounds sents old before → (gone : HasGoneOn p line new before now)
+pub answered-more : (p : Parameters) (line new : Line) (rounds : List (List Frame)) (sents : List Sent) (old before now : SinkTold) → HasAnswered p line rounds sents old before → (gone : HasGoneOn p line new before now)
     → HasAnswered p new (rounds ++ line.waiting ∷ []) (sents ++ gone.next) old now
 answered-more p line new rounds sents old before now had gone = record {
   served = served-more p line rounds sents gone.next old before new.journal had gone.answers;
@@ -70,7 +71,7 @@ answered-more p line new rounds sents old before now had gone = record {
 }
 
 -- frames that wait say nothing of what was answered
-answered-waits : (p : Parameters) (line : Line) (waiting : List Frame) (rounds : List (List Frame)) (sents : List Sent) (old now : Sunk)
+answered-waits : (p : Parameters) (line : Line) (waiting : List Frame) (rounds : List (List Frame)) (sents : List Sent) (old now : SinkTold)
     → HasAnswered p line rounds sents old now → HasAnswered p (record line { waiting = waiting }) rounds sents old now
 answered-waits p line waiting rounds sents old now had = record {
   served = had.served;
@@ -122,7 +123,7 @@ front-each : (xs ys : List Frame) → All (IsFrame request_table) (xs ++ ys) →
 front-each xs ys each = All-same (IsFrame request_table) xs (take (length xs) (xs ++ ys)) (sym (take-append_seam xs ys)) (All-take (IsFrame request_table) (length xs) (xs ++ ys) each)
 
 -- The frames of a run that stands.
-module _ (p : Parameters) (old : Sunk) (bytes : List ℕ) (feed : Feeding) (line : Line) (now : Sunk) (stands : Stands p old bytes feed line now) where
+module _ (p : Parameters) (old : SinkTold) (bytes : List ℕ) (feed : Feeding) (line : Line) (now : SinkTold) (stands : Stands p old bytes feed line now) where
   all_frames : List Frame
   all_frames = (frames_of stands.rounds ++ line.waiting) ++ feed.ready
 
@@ -166,7 +167,7 @@ module _ (p : Parameters) (old : Sunk) (bytes : List ℕ) (feed : Feeding) (line
   }
 
   -- memory ran out, and nothing was written
-  pub halts : (new : Line) (after : Sunk) → HasGivenUp line new now after → IsHalted p old bytes new after
+  pub halts : (new : Line) (after : SinkTold) → HasGivenUp line new now after → IsHalted p old bytes new after
   halts new after gave_up = record {
     limit = stands.limit;
     before = line;
@@ -175,11 +176,11 @@ module _ (p : Parameters) (old : Sunk) (bytes : List ℕ) (feed : Feeding) (line
     begins = begins stands.rounds (line.waiting ++ feed.ready) (append_assoc (frames_of stands.rounds) line.waiting feed.ready);
     full = stands.full;
     sents = stands.sents;
-    answered = subst (λ (s : Sunk). HasAnswered p line stands.rounds stands.sents old s) (sym gave_up.untouched) stands.answered;
+    answered = subst (λ (s : SinkTold). HasAnswered p line stands.rounds stands.sents old s) (sym gave_up.untouched) stands.answered;
   }
 
 -- One frame more is taken.
-module _ (p : Parameters) (old : Sunk) (bytes : List ℕ) (feed feed' : Feeding) (line line' : Line) (now now' : Sunk) (f : Frame) (stands : Stands p old bytes feed line now)
+module _ (p : Parameters) (old : SinkTold) (bytes : List ℕ) (feed feed' : Feeding) (line line' : Line) (now now' : SinkTold) (f : Frame) (stands : Stands p old bytes feed line now)
     (taken : feed ≡ record feed' { ready = f ∷ feed'.ready })
     (fed : (all : List ℕ) (frames : List Frame) → HasFed feed all frames → HasFed feed' all (frames ++ f ∷ [])) where
   moved : HasFed feed' bytes (frames_of stands.rounds ++ (line.waiting ++ f ∷ []))
@@ -191,7 +192,7 @@ module _ (p : Parameters) (old : Sunk) (bytes : List ℕ) (feed feed' : Feeding)
   waited : HasWaited line line' f now now' → Stands p old bytes feed' line' now'
   waited waits =
       subst (λ (l : Line). Stands p old bytes feed' l now') (sym waits.waits)
-      (subst (λ (s : Sunk). Stands p old bytes feed' (with_frame line f) s) (sym waits.untouched)
+      (subst (λ (s : SinkTold). Stands p old bytes feed' (with_frame line f) s) (sym waits.untouched)
       (record {
         limit = stands.limit;
         rounds = stands.rounds;
@@ -264,7 +265,7 @@ pub are-rounds : (rounds : List (List Frame)) → AreFull rounds → AreRounds r
 are-rounds rounds are = record { all = refl; each = are.each; full = λ k lt. All-take (λ r. IsTrue (is_full r)) (k + 1) rounds are.full }
 
 -- No frame stands ready any more.
-module _ (p : Parameters) (old : Sunk) (bytes : List ℕ) (feed : Feeding) (line : Line) (now : Sunk) (stands : Stands p old bytes feed line now) (empty : feed.ready ≡ []) where
+module _ (p : Parameters) (old : SinkTold) (bytes : List ℕ) (feed : Feeding) (line : Line) (now : SinkTold) (stands : Stands p old bytes feed line now) (empty : feed.ready ≡ []) where
   cut : IsCut request_table bytes (frames_of stands.rounds ++ line.waiting) feed.rest feed.fault
   cut =
       subst (λ (fs : List Frame). IsCut request_table bytes fs feed.rest feed.fault) (ap (λ (r : List Frame). (frames_of stands.rounds ++ line.waiting) ++ r) empty ∙ append-nil (frames_of stands.rounds ++ line.waiting))
@@ -289,7 +290,7 @@ module _ (p : Parameters) (old : Sunk) (bytes : List ℕ) (feed : Feeding) (line
       nil_from (x ∷ xs) e = absurd (omega (arith, e))
 
   -- the round that waits is served
-  pub all-last : (new : Line) (after : Sunk) → 0 < length line.waiting → HasGoneOn p line new now after → HasAnsweredAll p old bytes feed new after
+  pub all-last : (new : Line) (after : SinkTold) → 0 < length line.waiting → HasGoneOn p line new now after → HasAnsweredAll p old bytes feed new after
   all-last new after some gone = record {
     limit = stands.limit;
     frames = frames_of stands.rounds ++ line.waiting;
@@ -300,7 +301,7 @@ module _ (p : Parameters) (old : Sunk) (bytes : List ℕ) (feed : Feeding) (line
     answered = answered-more p line new stands.rounds stands.sents old now after stands.answered gone;
   }
 
-  pub stops-last : (new : Line) (after : Sunk) (stop : Stop) → 0 < length line.waiting → RoundStops p line new now after stop → LastStops p old bytes feed new after stop
+  pub stops-last : (new : Line) (after : SinkTold) (stop : Stop) → 0 < length line.waiting → RoundStops p line new now after stop → LastStops p old bytes feed new after stop
   stops-last new after BadInput some stops = stops
   stops-last new after ReadFault some stops = stops
   stops-last new after NoMemory some stops = halts p old bytes feed line now stands new after stops
@@ -322,12 +323,12 @@ module _ (p : Parameters) (old : Sunk) (bytes : List ℕ) (feed : Feeding) (line
       )
 
 -- the same for a call's result
-pub last-goes : {U : Type 0} (p : Parameters) (line new : Line) (now after : Sunk) (r : Result U Stop) → 0 < length line.waiting → OnOk r (HasGoneOn p line new now after)
-    → OnOk r ((old : Sunk) (bytes : List ℕ) (feed : Feeding) → feed.ready ≡ [] → Stands p old bytes feed line now → HasAnsweredAll p old bytes feed new after)
+pub last-goes : {U : Type 0} (p : Parameters) (line new : Line) (now after : SinkTold) (r : Result U Stop) → 0 < length line.waiting → OnOk r (HasGoneOn p line new now after)
+    → OnOk r ((old : SinkTold) (bytes : List ℕ) (feed : Feeding) → feed.ready ≡ [] → Stands p old bytes feed line now → HasAnsweredAll p old bytes feed new after)
 last-goes p line new now after (Ok u) some gone = λ old bytes feed empty stands. all-last p old bytes feed line now stands empty new after some gone
 last-goes p line new now after (Err e) some gone = tt
 
-pub last-stops : {U : Type 0} (p : Parameters) (line new : Line) (now after : Sunk) (r : Result U Stop) → 0 < length line.waiting → IfErr r (RoundStops p line new now after)
-    → IfErr r (λ stop. (old : Sunk) (bytes : List ℕ) (feed : Feeding) → feed.ready ≡ [] → Stands p old bytes feed line now → LastStops p old bytes feed new after stop)
+pub last-stops : {U : Type 0} (p : Parameters) (line new : Line) (now after : SinkTold) (r : Result U Stop) → 0 < length line.waiting → IfErr r (RoundStops p line new now after)
+    → IfErr r (λ stop. (old : SinkTold) (bytes : List ℕ) (feed : Feeding) → feed.ready ≡ [] → Stands p old bytes feed line now → LastStops p old bytes feed new after stop)
 last-stops p line new now after (Ok u) some stops = tt
 last-stops p line new now after (Err stop) some stops = λ old bytes feed empty stands. stops-last p old bytes feed line now stands empty new after stop some stops

@@ -8,7 +8,7 @@ use Rattle.std.proofs.lemmas.List.Elements.{All-nil}
 use Rattle.std.proofs.Math.Seq.{take-append-add}
 use Rattle.psi_residue.specs.Parameters.{Parameters}
 use Rattle.psi_outside.specs.Causes.{Rose, count_on}
-use Rattle.psi_outside.specs.Ends.{Ends}
+use Rattle.psi_outside.specs.Ends.{Ends, SinkTold}
 use Rattle.psi_outside.specs.Streams.{IsAllFlushed}
 use Rattle.psi_frames.specs.declared.frame.Frame.{Frame}
 use Rattle.psi_frames.specs.Frames.{AreWholeFrames, Fault, IsFrame, Short, frames_bytes, front_fault, most_bytes, request_table}
@@ -22,7 +22,7 @@ use Rattle.query_pool.specs.declared.round.Served.{Served}
 use Rattle.psi_serve.specs.declared.stop.Stop.{Stop}
 use Rattle.psi_serve.specs.declared.stop.Stop.TheVariants.{BadInput, ReadFault, WriteFault, NoMemory}
 use Rattle.psi_serve.specs.Serving.{AreRepliesTo, BeginWith, Counts, FillRounds, HasServed, IsAnswered, IsBadInput, IsDone, IsFlushedTo, IsInput, IsLastOrFull, IsOutOfMemory, IsReadFault, IsWriteFault}
-use Rattle.psi_serve.specs.Runs.{AreFull, BeginWithRounds, HasAnswered, HasAnsweredAll, IsBadPiece, IsCutOff, IsHalted, IsHearing, IsNew, IsOpen, LastStops, Leaves, Line, PieceStops, Sunk, frames_of, sunk_of}
+use Rattle.psi_serve.specs.Runs.{AreFull, BeginWithRounds, HasAnswered, HasAnsweredAll, IsBadPiece, IsCutOff, IsHalted, IsHearing, IsNew, IsOpen, LastStops, Leaves, Line, PieceStops, frames_of}
 use Rattle.psi_serve.proofs.Fewer.{frames-fewer, places-entries}
 use Rattle.psi_serve.proofs.Going.{are-rounds, frames-more, full-rounds, lane-more, open-nil, served-more}
 use Rattle.psi_frames.proofs.Joins.{none_lane, none_served}
@@ -87,7 +87,7 @@ cut-long bytes more frames rest fault size cut = record {
 }
 
 -- the replies to all frames
-module _ (p : Parameters) (alone : Bool) (line : Line) (rounds : List (List Frame)) (frames : List Frame) (sents : List Sent) (old now : Sunk) where
+module _ (p : Parameters) (alone : Bool) (line : Line) (rounds : List (List Frame)) (frames : List Frame) (sents : List Sent) (old now : SinkTold) where
   pub replies-to : AreRounds rounds frames → line.alone ≡ alone → HasAnswered p line rounds sents old now → AreRepliesTo p alone frames sents
   replies-to are same had = record {
     rounds = rounds;
@@ -104,13 +104,13 @@ module _ (p : Parameters) (alone : Bool) (line : Line) (rounds : List (List Fram
   }
 
 pub is-answered : (p : Parameters) (alone : Bool) (line : Line) (rounds : List (List Frame)) (frames : List Frame) (sents : List Sent) (old new : Ends) (served : Served) → AreRounds rounds frames → line.alone ≡ alone
-    → served.entries ≡ line.entries → served.replies ≡ line.replies → HasAnswered p line rounds sents (sunk_of old) (sunk_of new) → IsAnswered p alone frames old new served
+    → served.entries ≡ line.entries → served.replies ≡ line.replies → HasAnswered p line rounds sents old.sink new.sink → IsAnswered p alone frames old new served
 is-answered p alone line rounds frames sents old new served are same entries replies had = record {
   sents = sents;
-  replies = replies-to p alone line rounds frames sents (sunk_of old) (sunk_of new) are same had;
+  replies = replies-to p alone line rounds frames sents old.sink new.sink are same had;
   written = had.written;
   flushed = had.flushed;
-  counts = counted p alone line rounds frames sents (sunk_of old) (sunk_of new) served entries replies had;
+  counts = counted p alone line rounds frames sents old.sink new.sink served entries replies had;
   no_write_failed = had.no_write_failed;
 }
 
@@ -129,7 +129,7 @@ fill-rounds rounds are = record { rounds = rounds; all = refl; each = are.each; 
 
 -- 7
 pub halted : (p : Parameters) (alone : Bool) (old new : Ends) (bytes more : List ℕ) (line : Line) (served : Served) → line.alone ≡ alone → served.entries ≡ line.entries → served.replies ≡ line.replies
-    → Consumes old.left new.left (bytes ++ more) → IsHalted p (sunk_of old) bytes line (sunk_of new) → IsOutOfMemory p alone old new served
+    → Consumes old.source.left new.source.left (bytes ++ more) → IsHalted p old.sink bytes line new.sink → IsOutOfMemory p alone old new served
 halted p alone old new bytes more line served same entries replies consumed halt = record {
   taken = bytes ++ more;
   consumed = consumed;
@@ -150,14 +150,14 @@ flushed-up (Some x) (Some y) m n text h all e = subst (λ (o : Option ℕ). IfSo
     each None all = tt
     each (Some count) all = all ∙ ap length h ∙ length-append x text
 
-flushed-to : (old new : Ends) (middle : Sunk) (text : List ℕ) → Appends old.written middle.written text → IsAllFlushed middle.written middle.flushed ⊎ ((text ≡ []) × (middle.flushed ≡ old.flushed)) → new.flushed ≡ middle.flushed
+flushed-to : (old new middle : SinkTold) (text : List ℕ) → Appends old.written middle.written text → IsAllFlushed middle.written middle.flushed ⊎ ((text ≡ []) × (middle.flushed ≡ old.flushed)) → new.flushed ≡ middle.flushed
     → IsFlushedTo old new text
 flushed-to old new middle text h (inl all) e = inl (flushed-up old.written middle.written middle.flushed new.flushed text h all e)
 flushed-to old new middle text h (inr none) e = inr (none.0, e ∙ none.1)
 
 -- 6
 pub cut_off : (p : Parameters) (alone : Bool) (old new : Ends) (bytes more : List ℕ) (line : Line) (served : Served) → line.alone ≡ alone → served.entries ≡ line.entries → served.replies ≡ line.replies
-    → Consumes old.left new.left (bytes ++ more) → (cut : IsCutOff p (sunk_of old) bytes line (sunk_of new))
+    → Consumes old.source.left new.source.left (bytes ++ more) → (cut : IsCutOff p old.sink bytes line new.sink)
     → IsLastOrFull (bytes ++ more) (frames_of (cut.rounds ++ cut.before.waiting ∷ [])) cut.before.waiting → IsWriteFault p alone old new served
 cut_off p alone old new bytes more line served same entries replies consumed cut ends =
     let round = cut.before.waiting in
@@ -175,24 +175,24 @@ cut_off p alone old new bytes more line served same entries replies consumed cut
       is_round = cut.is_round;
       ends = subst (λ (frames : List Frame). IsLastOrFull (bytes ++ more) frames round) all ends;
       done = cut.sents;
-      done_replies = replies-to p alone cut.before cut.rounds earlier cut.sents (sunk_of old) cut.middle (are-rounds cut.rounds cut.full) own cut.answered;
+      done_replies = replies-to p alone cut.before cut.rounds earlier cut.sents old.sink cut.middle (are-rounds cut.rounds cut.full) own cut.answered;
       last = next;
       replies = record {
         rounds = cut.rounds ++ round ∷ [];
         are_rounds = full-rounds cut.rounds round (earlier ++ round) cut.full cut.is_round refl;
         history = cut.broken.after;
-        served = served-more p cut.before cut.rounds cut.sents next (sunk_of old) cut.middle cut.broken.after cut.answered cut.broken.answers;
-        one_lane = λ e. lane-more p cut.before cut.rounds cut.sents next (sunk_of old) cut.middle cut.broken.after cut.answered cut.broken.answers (own ∙ e);
+        served = served-more p cut.before cut.rounds cut.sents next old.sink cut.middle cut.broken.after cut.answered cut.broken.answers;
+        one_lane = λ e. lane-more p cut.before cut.rounds cut.sents next old.sink cut.middle cut.broken.after cut.answered cut.broken.answers (own ∙ e);
       };
-      front = (cut.broken.front.0, Appends-trans old.written cut.middle.written new.written (text_of cut.sents) (take cut.broken.front.0 (text_of next)) cut.answered.written cut.broken.front.1);
-      flushed = flushed-to old new cut.middle (text_of cut.sents) cut.answered.written cut.answered.flushed cut.broken.flushed;
-      counts = counted p alone cut.before cut.rounds earlier cut.sents (sunk_of old) cut.middle served (entries ∙ cut.broken.counts.entries) (replies ∙ cut.broken.counts.replies) cut.answered;
+      front = (cut.broken.front.0, Appends-trans old.sink.written cut.middle.written new.sink.written (text_of cut.sents) (take cut.broken.front.0 (text_of next)) cut.answered.written cut.broken.front.1);
+      flushed = flushed-to old.sink new.sink cut.middle (text_of cut.sents) cut.answered.written cut.answered.flushed cut.broken.flushed;
+      counts = counted p alone cut.before cut.rounds earlier cut.sents old.sink cut.middle served (entries ∙ cut.broken.counts.entries) (replies ∙ cut.broken.counts.replies) cut.answered;
       failed = let rose = cut.broken.failed in let kept = cut.answered.no_write_failed in omega (arith, rose, kept);
     }
 
 -- 0 and 4 where the input ends
 pub at-end : (p : Parameters) (alone : Bool) (old new : Ends) (feed : Feeding) (bytes : List ℕ) (line : Line) (served : Served) → line.alone ≡ alone → served.entries ≡ line.entries → served.replies ≡ line.replies
-    → HasAnsweredAll p (sunk_of old) bytes feed line (sunk_of new) → IsInput old bytes → IfSome old.left (λ _. new.left ≡ Some []) → new.reads_failed ≡ old.reads_failed
+    → HasAnsweredAll p old.sink bytes feed line new.sink → IsInput old bytes → IfSome old.source.left (λ _. new.source.left ≡ Some []) → new.source.faults ≡ old.source.faults
     → end_fault feed.fault feed.rest ≡ None → IsDone p alone old new served
 at-end p alone old new feed bytes line served same entries replies all told ended read none = record {
   input = bytes;
@@ -206,7 +206,7 @@ at-end p alone old new feed bytes line served same entries replies all told ende
 }
 
 pub at-bad_end : (p : Parameters) (alone : Bool) (old new : Ends) (feed : Feeding) (bytes : List ℕ) (line : Line) (served : Served) → line.alone ≡ alone → served.entries ≡ line.entries → served.replies ≡ line.replies
-    → HasAnsweredAll p (sunk_of old) bytes feed line (sunk_of new) → IsInput old bytes → new.reads_failed ≡ old.reads_failed → IsSome (end_fault feed.fault feed.rest) → IsBadInput p alone old new served
+    → HasAnsweredAll p old.sink bytes feed line new.sink → IsInput old bytes → new.source.faults ≡ old.source.faults → IsSome (end_fault feed.fault feed.rest) → IsBadInput p alone old new served
 at-bad_end p alone old new feed bytes line served same entries replies all told read bad = record {
   input = bytes;
   told = told;
@@ -220,7 +220,7 @@ at-bad_end p alone old new feed bytes line served same entries replies all told 
 
 -- 5
 pub at-read_fault : (p : Parameters) (alone : Bool) (old new : Ends) (feed : Feeding) (bytes : List ℕ) (line : Line) (served : Served) → line.alone ≡ alone → served.entries ≡ line.entries → served.replies ≡ line.replies
-    → HasAnsweredAll p (sunk_of old) bytes feed line (sunk_of new) → feed.fault ≡ None → Consumes old.left new.left bytes → Rose old.reads_failed new.reads_failed → IsReadFault p alone old new served
+    → HasAnsweredAll p old.sink bytes feed line new.sink → feed.fault ≡ None → Consumes old.source.left new.source.left bytes → Rose old.source.faults new.source.faults → IsReadFault p alone old new served
 at-read_fault p alone old new feed bytes line served same entries replies all faultless consumed rose = record {
   taken = bytes;
   consumed = consumed;
@@ -276,20 +276,20 @@ bad-whole bytes piece rest room feed frames e limit cut (inr more) = (
 
 -- a stop behind a piece
 module _ (p : Parameters) (alone : Bool) (old new : Ends) (feed : Feeding) (bytes piece : List ℕ) (room : ℕ) (line : Line) (same : line.alone ≡ alone) (room_is : length bytes + room ≡ most_bytes)
-    (consumed : Consumes old.left new.left (bytes ++ piece)) (read : new.reads_failed ≡ old.reads_failed) where
-  seen : Consumes old.left new.left ((bytes ++ take room piece) ++ drop room piece)
-  seen = subst (Consumes old.left new.left) (sym (append-nil (bytes ++ piece)) ∙ seen-more bytes piece [] room ∙ ap (λ (t : List ℕ). (bytes ++ take room piece) ++ t) (append-nil (drop room piece))) consumed
+    (consumed : Consumes old.source.left new.source.left (bytes ++ piece)) (read : new.source.faults ≡ old.source.faults) where
+  seen : Consumes old.source.left new.source.left ((bytes ++ take room piece) ++ drop room piece)
+  seen = subst (Consumes old.source.left new.source.left) (sym (append-nil (bytes ++ piece)) ∙ seen-more bytes piece [] room ∙ ap (λ (t : List ℕ). (bytes ++ take room piece) ++ t) (append-nil (drop room piece))) consumed
 
   all-seen : (bytes ++ piece) ++ [] ≡ (bytes ++ take room piece) ++ drop room piece
   all-seen = seen-more bytes piece [] room ∙ ap (λ (t : List ℕ). (bytes ++ take room piece) ++ t) (append-nil (drop room piece))
 
-  pub leaves-piece : (stop : Stop) → PieceStops p (sunk_of old) bytes piece room feed line (sunk_of new) stop → Leaves p alone old new line.entries line.replies (Err stop)
+  pub leaves-piece : (stop : Stop) → PieceStops p old.sink bytes piece room feed line new.sink stop → Leaves p alone old new line.entries line.replies (Err stop)
   leaves-piece ReadFault stops = absurd stops
   leaves-piece BadInput (all, bad) = λ served entries replies.
-      let whole = bad-whole bytes piece (known new.left) room feed all.frames room_is all.limit all.cut bad in
+      let whole = bad-whole bytes piece (known new.source.left) room feed all.frames room_is all.limit all.cut bad in
       record {
-        input = (bytes ++ piece) ++ known new.left;
-        told = told-more old.left new.left (bytes ++ piece) consumed;
+        input = (bytes ++ piece) ++ known new.source.left;
+        told = told-more old.source.left new.source.left (bytes ++ piece) consumed;
         frames = all.frames;
         fault = whole.0;
         whole = whole.1;
@@ -305,11 +305,11 @@ module _ (p : Parameters) (alone : Bool) (old new : Ends) (feed : Feeding) (byte
   leaves-piece NoMemory stops = λ served entries replies. halted p alone old new (bytes ++ take room piece) (drop room piece) line served same entries replies seen stops
 
 -- a stop in the last round
-module _ (p : Parameters) (alone : Bool) (old new : Ends) (feed : Feeding) (bytes : List ℕ) (line : Line) (same : line.alone ≡ alone) (consumed : Consumes old.left new.left bytes) where
-  all-taken : Consumes old.left new.left (bytes ++ [])
-  all-taken = subst (Consumes old.left new.left) (sym (append-nil bytes)) consumed
+module _ (p : Parameters) (alone : Bool) (old new : Ends) (feed : Feeding) (bytes : List ℕ) (line : Line) (same : line.alone ≡ alone) (consumed : Consumes old.source.left new.source.left bytes) where
+  all-taken : Consumes old.source.left new.source.left (bytes ++ [])
+  all-taken = subst (Consumes old.source.left new.source.left) (sym (append-nil bytes)) consumed
 
-  pub leaves-last : (stop : Stop) → LastStops p (sunk_of old) bytes feed line (sunk_of new) stop → Leaves p alone old new line.entries line.replies (Err stop)
+  pub leaves-last : (stop : Stop) → LastStops p old.sink bytes feed line new.sink stop → Leaves p alone old new line.entries line.replies (Err stop)
   leaves-last ReadFault stops = absurd stops
   leaves-last BadInput stops = absurd stops
   leaves-last WriteFault (cut, last) = λ served entries replies.
@@ -318,8 +318,8 @@ module _ (p : Parameters) (alone : Bool) (old new : Ends) (feed : Feeding) (byte
   leaves-last NoMemory stops = λ served entries replies. halted p alone old new bytes [] line served same entries replies all-taken stops
 
 -- the end of the input, by whether it may end there
-pub leaves-end : (p : Parameters) (alone : Bool) (old new : Ends) (feed : Feeding) (bytes : List ℕ) (line : Line) (r : Result ⊤ Stop) → line.alone ≡ alone → HasAnsweredAll p (sunk_of old) bytes feed line (sunk_of new)
-    → IsInput old bytes → IfSome old.left (λ _. new.left ≡ Some []) → new.reads_failed ≡ old.reads_failed → OnOk r (end_fault feed.fault feed.rest ≡ None)
+pub leaves-end : (p : Parameters) (alone : Bool) (old new : Ends) (feed : Feeding) (bytes : List ℕ) (line : Line) (r : Result ⊤ Stop) → line.alone ≡ alone → HasAnsweredAll p old.sink bytes feed line new.sink
+    → IsInput old bytes → IfSome old.source.left (λ _. new.source.left ≡ Some []) → new.source.faults ≡ old.source.faults → OnOk r (end_fault feed.fault feed.rest ≡ None)
     → IfErr r (λ stop. (stop ≡ BadInput) × IsSome (end_fault feed.fault feed.rest)) → Leaves p alone old new line.entries line.replies r
 leaves-end p alone old new feed bytes line (Ok done) same all told ended read ok err = λ served entries replies. at-end p alone old new feed bytes line served same entries replies all told ended read ok
 leaves-end p alone old new feed bytes line (Err stop) same all told ended read ok err =
@@ -369,7 +369,7 @@ appends-nil : (written : Option (List ℕ)) → Appends written written []
 appends-nil None = tt
 appends-nil (Some bytes) = sym (append-nil bytes)
 
-new-answered : (p : Parameters) (line : Line) (now : Sunk) → IsNew line → HasAnswered p line [] [] now now
+new-answered : (p : Parameters) (line : Line) (now : SinkTold) → IsNew line → HasAnswered p line [] [] now now
 new-answered p line now new = record {
   served = subst (λ (j : List Entry). IsServed p (empty_version p) [] j [] []) (sym new.journal) (none_served p (empty_version p) [] tt);
   one_lane = λ _. none_lane;
@@ -387,7 +387,7 @@ none-full = record { each = All-nil IsRound; full = All-nil (λ round. IsTrue (i
 -- want of memory before the first read
 pub leaves-new : (p : Parameters) (now : Ends) (line : Line) → IsNew line → Leaves p line.alone now now line.entries line.replies (Err NoMemory)
 leaves-new p now line new = λ served entries replies.
-    halted p line.alone now now [] [] line served refl entries replies (consumes-nil now.left) (record {
+    halted p line.alone now now [] [] line served refl entries replies (consumes-nil now.source.left) (record {
       limit = omega arith;
       before = line;
       counts = record { alone = refl; entries = refl; replies = refl };
@@ -395,7 +395,7 @@ leaves-new p now line new = λ served entries replies.
       begins = record { rest = []; whole = refl; each = All-nil (IsFrame request_table) };
       full = none-full;
       sents = [];
-      answered = new-answered p line (sunk_of now) new;
+      answered = new-answered p line now.sink new;
     })
 
 -- a feed to which nothing was fed
@@ -424,12 +424,12 @@ new-hears p now feed line new fed requests = record {
     requests = requests;
     full = none-full;
     open_round = subst IsOpen (sym new.none_waits) open-nil;
-    answered = new-answered p line (sunk_of now) new;
+    answered = new-answered p line now.sink new;
   };
   room_is = omega arith;
   none_ready = none_ready feed fed;
   faultless = faultless feed fed requests;
-  consumed = consumes-nil now.left;
+  consumed = consumes-nil now.source.left;
   no_read_failed = refl;
 }
 

@@ -50,18 +50,18 @@ not-both bytes good bad = by_cause (one-fault bytes good.frames bad.frames None 
 
 -- so a good input is not told as a bad one, nor a bad one as done
 module _ (p : Parameters) (alone : Bool) (old new : Ends) (served : Served) (has : HasServed p alone old new served) where
-  pub good-told : IfSome old.left (λ bytes. IsGoodInput bytes → served.status ≡ 4 → ⊥)
-  good-told = by_left old.left refl where
-    by_left : (left : Option (List ℕ)) → old.left ≡ left → IfSome left (λ bytes. IsGoodInput bytes → served.status ≡ 4 → ⊥)
+  pub good-told : IfSome old.source.left (λ bytes. IsGoodInput bytes → served.status ≡ 4 → ⊥)
+  good-told = by_left old.source.left refl where
+    by_left : (left : Option (List ℕ)) → old.source.left ≡ left → IfSome left (λ bytes. IsGoodInput bytes → served.status ≡ 4 → ⊥)
     by_left None e = tt
     by_left (Some bytes) e = λ good four.
         let is = has.bad_input four in
         let same : bytes ≡ is.input = subst (λ (l : Option (List ℕ)). IfSome l (λ b. b ≡ is.input)) e is.told in
         not-both bytes good (subst IsBad (sym same) (record { frames = is.frames; fault = is.fault; whole = is.whole; bad = is.bad }))
 
-  pub bad-told : IfSome old.left (λ bytes. IsBad bytes → served.status ≡ 0 → ⊥)
-  bad-told = by_left old.left refl where
-    by_left : (left : Option (List ℕ)) → old.left ≡ left → IfSome left (λ bytes. IsBad bytes → served.status ≡ 0 → ⊥)
+  pub bad-told : IfSome old.source.left (λ bytes. IsBad bytes → served.status ≡ 0 → ⊥)
+  bad-told = by_left old.source.left refl where
+    by_left : (left : Option (List ℕ)) → old.source.left ≡ left → IfSome left (λ bytes. IsBad bytes → served.status ≡ 0 → ⊥)
     by_left None e = tt
     by_left (Some bytes) e = λ bad zero.
         let is = has.done zero in

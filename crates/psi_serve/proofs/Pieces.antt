@@ -9,7 +9,8 @@ use Rattle.psi_frames.specs.Frames.{most_bytes}
 use Rattle.psi_frames.specs.Feeds.{Feeding, HasFed}
 use Rattle.psi_serve.specs.declared.stop.Stop.{Stop}
 use Rattle.psi_serve.specs.declared.stop.Stop.TheVariants.{BadInput, ReadFault, WriteFault, NoMemory}
-use Rattle.psi_serve.specs.Runs.{IsBadPiece, IsHalted, LastStops, Line, PieceStops, Stands, StopsAt, Sunk}
+use Rattle.psi_outside.specs.Ends.{SinkTold}
+use Rattle.psi_serve.specs.Runs.{IsBadPiece, IsHalted, LastStops, Line, PieceStops, Stands, StopsAt}
 use Rattle.psi_serve.proofs.Going.{halts}
 
 -- a front of a piece is no longer than the room
@@ -17,7 +18,7 @@ length-front : (room : ℕ) (piece : List ℕ) → length (take room piece) ≤ 
 length-front room piece = omega (arith, length-take room piece)
 
 -- more bytes were fed
-pub stands-heard : (p : Parameters) (old : Sunk) (bytes more : List ℕ) (feed feed' : Feeding) (line : Line) (now : Sunk) → Stands p old bytes feed line now
+pub stands-heard : (p : Parameters) (old : SinkTold) (bytes more : List ℕ) (feed feed' : Feeding) (line : Line) (now : SinkTold) → Stands p old bytes feed line now
     → ((all : List ℕ) (taken : List Frame) → HasFed feed all taken → HasFed feed' (all ++ more) taken) → feed'.replies ≡ feed.replies → length (bytes ++ more) ≤ most_bytes
     → Stands p old (bytes ++ more) feed' line now
 stands-heard p old bytes more feed feed' line now stands fed table limit = record {
@@ -35,12 +36,12 @@ pub room-limit : (bytes piece : List ℕ) (room : ℕ) → length bytes + room �
 room-limit bytes piece room e = omega (arith, e, length-append bytes (take room piece), length-front room piece)
 
 -- the whole piece was seen
-pub stands-whole : (p : Parameters) (old : Sunk) (bytes piece : List ℕ) (room : ℕ) (feed : Feeding) (line : Line) (now : Sunk) → length piece ≤ room
+pub stands-whole : (p : Parameters) (old : SinkTold) (bytes piece : List ℕ) (room : ℕ) (feed : Feeding) (line : Line) (now : SinkTold) → length piece ≤ room
     → Stands p old (bytes ++ take room piece) feed line now → Stands p old (bytes ++ piece) feed line now
 stands-whole p old bytes piece room feed line now le stands = subst (λ (t : List ℕ). Stands p old (bytes ++ t) feed line now) (take_all room piece le) stands
 
 -- what halted behind some bytes has halted behind more
-pub halts-more : (p : Parameters) (old : Sunk) (bytes more : List ℕ) (line : Line) (now : Sunk) → length (bytes ++ more) ≤ most_bytes → IsHalted p old bytes line now → IsHalted p old (bytes ++ more) line now
+pub halts-more : (p : Parameters) (old : SinkTold) (bytes more : List ℕ) (line : Line) (now : SinkTold) → length (bytes ++ more) ≤ most_bytes → IsHalted p old bytes line now → IsHalted p old (bytes ++ more) line now
 halts-more p old bytes more line now limit halted = record {
   limit = limit;
   before = halted.before;
@@ -57,21 +58,21 @@ halts-more p old bytes more line now limit halted = record {
 }
 
 -- want of memory for the piece
-pub stops-hear : (p : Parameters) (old : Sunk) (bytes piece : List ℕ) (room : ℕ) (feed : Feeding) (line : Line) (now : Sunk) → Stands p old bytes feed line now → length bytes + room ≡ most_bytes
+pub stops-hear : (p : Parameters) (old : SinkTold) (bytes piece : List ℕ) (room : ℕ) (feed : Feeding) (line : Line) (now : SinkTold) → Stands p old bytes feed line now → length bytes + room ≡ most_bytes
     → IsHalted p old (bytes ++ take room piece) line now
 stops-hear p old bytes piece room feed line now stands e =
     halts-more p old bytes (take room piece) line now (room-limit bytes piece room e)
     (halts p old bytes feed line now stands line now (record { untouched = refl; counts = record { alone = refl; entries = refl; replies = refl } }))
 
 -- a stop within the piece, and one in the last round
-pub stops-drain : (p : Parameters) (old : Sunk) (bytes piece : List ℕ) (room : ℕ) (feed : Feeding) (line : Line) (now : Sunk) (stop : Stop) → StopsAt p old (bytes ++ take room piece) line now stop
+pub stops-drain : (p : Parameters) (old : SinkTold) (bytes piece : List ℕ) (room : ℕ) (feed : Feeding) (line : Line) (now : SinkTold) (stop : Stop) → StopsAt p old (bytes ++ take room piece) line now stop
     → PieceStops p old bytes piece room feed line now stop
 stops-drain p old bytes piece room feed line now BadInput stops = absurd stops
 stops-drain p old bytes piece room feed line now ReadFault stops = absurd stops
 stops-drain p old bytes piece room feed line now WriteFault stops = (stops.0, inl stops.1)
 stops-drain p old bytes piece room feed line now NoMemory stops = stops
 
-pub stops-piece : (p : Parameters) (old : Sunk) (bytes piece : List ℕ) (room : ℕ) (feed : Feeding) (line : Line) (now : Sunk) (stop : Stop) → IsBadPiece feed room piece
+pub stops-piece : (p : Parameters) (old : SinkTold) (bytes piece : List ℕ) (room : ℕ) (feed : Feeding) (line : Line) (now : SinkTold) (stop : Stop) → IsBadPiece feed room piece
     → LastStops p old (bytes ++ take room piece) feed line now stop → PieceStops p old bytes piece room feed line now stop
 stops-piece p old bytes piece room feed line now BadInput bad stops = absurd stops
 stops-piece p old bytes piece room feed line now ReadFault bad stops = absurd stops

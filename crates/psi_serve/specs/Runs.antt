@@ -6,7 +6,7 @@ use Rattle.psi_residue.specs.Parameters.{Parameters}
 use Rattle.psi_bundle.specs.declared.history.Entry.{Entry}
 use Rattle.psi_bundle.specs.Versions.{empty_version}
 use Rattle.psi_outside.specs.Causes.{Rose}
-use Rattle.psi_outside.specs.Ends.{Ends}
+use Rattle.psi_outside.specs.Ends.{Ends, SinkTold}
 use Rattle.psi_outside.specs.Streams.{IsAllFlushed}
 use Rattle.psi_frames.specs.declared.frame.Frame.{Frame}
 use Rattle.psi_frames.specs.Frames.{Fault, IsFrame, frames_bytes, most_bytes, request_table}
@@ -20,15 +20,6 @@ use Rattle.psi_serve.specs.declared.run.Run.{Run}
 use Rattle.psi_serve.specs.declared.stop.Stop.{Stop}
 use Rattle.psi_serve.specs.declared.stop.Stop.TheVariants.{BadInput, ReadFault, WriteFault, NoMemory}
 use Rattle.psi_serve.specs.Serving.{IsBadInput, IsDone, IsOutOfMemory, IsReadFault, IsWriteFault}
-
--- what a sink tells at one moment
-pub record Sunk : Type 0 where
-  pub written : Option (List ℕ)
-  pub flushed : Option ℕ
-  pub failed : ℕ
-
-abbrev pub sunk : Option (List ℕ) → Option ℕ → ℕ → Sunk
-sunk written flushed failed = record { written = written; flushed = flushed; failed = failed }
 
 -- A run: whether it answers as one lane does, its journal, the frames of the round that has begun, and what was counted.
 pub record Line : Type 0 where
@@ -54,14 +45,14 @@ pub record AnswersRound (p : Parameters) (alone : Bool) (before after : List Ent
   pub codes : AllByRecursion HasByteCode (requests_from p 0 frames)
 
 -- The round that waited is answered, written and flushed, and counted; none waits.
-pub record HasGoneOn (p : Parameters) (old new : Line) (before now : Sunk) : Type 0 where
+pub record HasGoneOn (p : Parameters) (old new : Line) (before now : SinkTold) : Type 0 where
   pub next : List Sent
   pub answers : AnswersRound p old.alone old.journal new.journal old.waiting next
   pub alone : new.alone ≡ old.alone
   pub none_waits : new.waiting ≡ []
   pub written : Appends before.written now.written (text_of next)
   pub flushed : IsAllFlushed now.written now.flushed
-  pub no_write_failed : now.failed ≡ before.failed
+  pub no_write_failed : now.faults ≡ before.faults
   pub entries : new.entries ≡ length new.journal
   pub replies : new.replies ≡ old.replies + length next
 
@@ -72,22 +63,22 @@ pub record HasCountsOf (old new : Line) : Type 0 where
   pub replies : new.replies ≡ old.replies
 
 -- a write or a flush failed behind a front of the round's replies, and nothing more is flushed
-pub record HasBroken (p : Parameters) (old new : Line) (before now : Sunk) : Type 0 where
+pub record HasBroken (p : Parameters) (old new : Line) (before now : SinkTold) : Type 0 where
   pub next : List Sent
   pub after : List Entry
   pub answers : AnswersRound p old.alone old.journal after old.waiting next
   pub front : (n : ℕ) × Appends before.written now.written (take n (text_of next))
   pub flushed : now.flushed ≡ before.flushed
-  pub failed : Rose before.failed now.failed
+  pub failed : Rose before.faults now.faults
   pub counts : HasCountsOf old new
 
 -- memory ran out, and nothing of the round was written
-pub record HasGivenUp (old new : Line) (before now : Sunk) : Type 0 where
+pub record HasGivenUp (old new : Line) (before now : SinkTold) : Type 0 where
   pub untouched : now ≡ before
   pub counts : HasCountsOf old new
 
 -- why a round was not answered
-abbrev pub RoundStops : Parameters → (old new : Line) → (before now : Sunk) → Stop → Type 0
+abbrev pub RoundStops : Parameters → (old new : Line) → (before now : SinkTold) → Stop → Type 0
 RoundStops p old new before now BadInput = ⊥
 RoundStops p old new before now ReadFault = ⊥
 RoundStops p old new before now WriteFault = HasBroken p old new before now
@@ -98,30 +89,30 @@ abbrev pub with_frame : Line → Frame → Line
 with_frame line f = record line { waiting = line.waiting ++ f ∷ [] }
 
 -- the frame waits, and the round is not full
-pub record HasWaited (old new : Line) (f : Frame) (before now : Sunk) : Type 0 where
+pub record HasWaited (old new : Line) (f : Frame) (before now : SinkTold) : Type 0 where
   pub waits : new ≡ with_frame old f
   pub not_full : IsFalse (is_full (old.waiting ++ f ∷ []))
   pub untouched : now ≡ before
 
 -- the frame waits, or has filled the round, which was served
-abbrev pub Takes : Parameters → (old new : Line) → Frame → (before now : Sunk) → Type 0
+abbrev pub Takes : Parameters → (old new : Line) → Frame → (before now : SinkTold) → Type 0
 Takes p old new f before now = HasWaited old new f before now ⊎ (IsTrue (is_full (old.waiting ++ f ∷ [])) × HasGoneOn p (with_frame old f) new before now)
 
 -- why a frame was not taken
-abbrev pub TakeStops : Parameters → (old new : Line) → Frame → (before now : Sunk) → Stop → Type 0
+abbrev pub TakeStops : Parameters → (old new : Line) → Frame → (before now : SinkTold) → Stop → Type 0
 TakeStops p old new f before now BadInput = ⊥
 TakeStops p old new f before now ReadFault = ⊥
 TakeStops p old new f before now WriteFault = IsTrue (is_full (old.waiting ++ f ∷ [])) × HasBroken p (with_frame old f) new before now
 TakeStops p old new f before now NoMemory = HasGivenUp old new before now
 
 -- The replies to these rounds were written and flushed, and the run has counted them.
-pub record HasAnswered (p : Parameters) (line : Line) (rounds : List (List Frame)) (sents : List Sent) (old now : Sunk) : Type 0 where
+pub record HasAnswered (p : Parameters) (line : Line) (rounds : List (List Frame)) (sents : List Sent) (old now : SinkTold) : Type 0 where
   pub served : IsServed p (empty_version p) [] line.journal (request_rounds p rounds) sents
   pub one_lane : line.alone ≡ true → IsOneLane (exchanges (request_rounds p rounds) sents)
   pub codes : AllByRecursion HasByteCode (requests_of (request_rounds p rounds))
   pub written : Appends old.written now.written (text_of sents)
   pub flushed : IsAllFlushed now.written now.flushed ⊎ ((text_of sents ≡ []) × (now.flushed ≡ old.flushed))
-  pub no_write_failed : now.failed ≡ old.failed
+  pub no_write_failed : now.faults ≡ old.faults
   pub entries : line.entries ≡ length line.journal
   pub replies : line.replies ≡ length sents
 
@@ -135,7 +126,7 @@ pub record AreFull (rounds : List (List Frame)) : Type 0 where
   pub full : All (λ round. IsTrue (is_full round)) rounds
 
 -- A run stands behind these bytes of its input: the full rounds of their frames are answered, others wait, and some stand ready in the feed.
-pub record Stands (p : Parameters) (old : Sunk) (bytes : List ℕ) (feed : Feeding) (line : Line) (now : Sunk) : Type 0 where
+pub record Stands (p : Parameters) (old : SinkTold) (bytes : List ℕ) (feed : Feeding) (line : Line) (now : SinkTold) : Type 0 where
   pub limit : length bytes ≤ most_bytes
   pub rounds : List (List Frame)
   pub sents : List Sent
@@ -146,13 +137,13 @@ pub record Stands (p : Parameters) (old : Sunk) (bytes : List ℕ) (feed : Feedi
   pub answered : HasAnswered p line rounds sents old now
 
 -- it does so behind some bytes
-pub record IsStanding (p : Parameters) (feed : Feeding) (line : Line) (now : Sunk) : Type 0 where
-  pub old : Sunk
+pub record IsStanding (p : Parameters) (feed : Feeding) (line : Line) (now : SinkTold) : Type 0 where
+  pub old : SinkTold
   pub bytes : List ℕ
   pub stands : Stands p old bytes feed line now
 
 -- All whole frames of the bytes are answered.
-pub record HasAnsweredAll (p : Parameters) (old : Sunk) (bytes : List ℕ) (feed : Feeding) (line : Line) (now : Sunk) : Type 0 where
+pub record HasAnsweredAll (p : Parameters) (old : SinkTold) (bytes : List ℕ) (feed : Feeding) (line : Line) (now : SinkTold) : Type 0 where
   pub limit : length bytes ≤ most_bytes
   pub frames : List Frame
   pub cut : IsCut request_table bytes frames feed.rest feed.fault
@@ -168,7 +159,7 @@ pub record BeginWithRounds (bytes : List ℕ) (rounds : List (List Frame)) : Typ
   pub each : All (IsFrame request_table) (frames_of rounds)
 
 -- Memory ran out: the rounds before, all full, are answered.
-pub record IsHalted (p : Parameters) (old : Sunk) (bytes : List ℕ) (line : Line) (now : Sunk) : Type 0 where
+pub record IsHalted (p : Parameters) (old : SinkTold) (bytes : List ℕ) (line : Line) (now : SinkTold) : Type 0 where
   pub limit : length bytes ≤ most_bytes
   pub before : Line
   pub counts : HasCountsOf before line
@@ -179,7 +170,7 @@ pub record IsHalted (p : Parameters) (old : Sunk) (bytes : List ℕ) (line : Lin
   pub answered : HasAnswered p before rounds sents old now
 
 -- A write failed in a round: the rounds before, all full, are answered, and a front of that round's replies was written.
-pub record IsCutOff (p : Parameters) (old : Sunk) (bytes : List ℕ) (line : Line) (now : Sunk) : Type 0 where
+pub record IsCutOff (p : Parameters) (old : SinkTold) (bytes : List ℕ) (line : Line) (now : SinkTold) : Type 0 where
   pub limit : length bytes ≤ most_bytes
   pub before : Line
   pub rounds : List (List Frame)
@@ -187,12 +178,12 @@ pub record IsCutOff (p : Parameters) (old : Sunk) (bytes : List ℕ) (line : Lin
   pub begins : BeginWithRounds bytes (rounds ++ before.waiting ∷ [])
   pub is_round : IsRound before.waiting
   pub sents : List Sent
-  pub middle : Sunk
+  pub middle : SinkTold
   pub answered : HasAnswered p before rounds sents old middle
   pub broken : HasBroken p before line middle now
 
 -- why a run stops within its bytes: where a write failed, the round was full
-abbrev pub StopsAt : Parameters → (old : Sunk) → (bytes : List ℕ) → Line → (now : Sunk) → Stop → Type 0
+abbrev pub StopsAt : Parameters → (old : SinkTold) → (bytes : List ℕ) → Line → (now : SinkTold) → Stop → Type 0
 StopsAt p old bytes line now BadInput = ⊥
 StopsAt p old bytes line now ReadFault = ⊥
 StopsAt p old bytes line now WriteFault = (cut : IsCutOff p old bytes line now) × IsTrue (is_full cut.before.waiting)
@@ -203,15 +194,15 @@ abbrev pub IsLast : (bytes : List ℕ) → Feeding → (rounds : List (List Fram
 IsLast bytes feed rounds round = IsCut request_table bytes (frames_of (rounds ++ round ∷ [])) feed.rest feed.fault
 
 -- why a run stops in its last round
-abbrev pub LastStops : Parameters → (old : Sunk) → (bytes : List ℕ) → Feeding → Line → (now : Sunk) → Stop → Type 0
+abbrev pub LastStops : Parameters → (old : SinkTold) → (bytes : List ℕ) → Feeding → Line → (now : SinkTold) → Stop → Type 0
 LastStops p old bytes feed line now BadInput = ⊥
 LastStops p old bytes feed line now ReadFault = ⊥
 LastStops p old bytes feed line now WriteFault = (cut : IsCutOff p old bytes line now) × IsLast bytes feed cut.rounds cut.before.waiting
 LastStops p old bytes feed line now NoMemory = IsHalted p old bytes line now
 
 -- it stands behind some bytes, and so many bytes more are looked at
-pub record IsStandingAt (p : Parameters) (room : ℕ) (feed : Feeding) (line : Line) (now : Sunk) : Type 0 where
-  pub old : Sunk
+pub record IsStandingAt (p : Parameters) (room : ℕ) (feed : Feeding) (line : Line) (now : SinkTold) : Type 0 where
+  pub old : SinkTold
   pub bytes : List ℕ
   pub stands : Stands p old bytes feed line now
   pub room_is : length bytes + room ≡ most_bytes
@@ -221,16 +212,12 @@ abbrev pub IsBadPiece : Feeding → (room : ℕ) → (piece : List ℕ) → Type
 IsBadPiece feed room piece = ((fault : Fault) × (feed.fault ≡ Some fault) × (fault ≡ Fault.Short → ⊥)) ⊎ (room < length piece)
 
 -- why a run stops behind a piece more
-abbrev pub PieceStops : Parameters → (old : Sunk) → (bytes piece : List ℕ) → (room : ℕ) → Feeding → Line → (now : Sunk) → Stop → Type 0
+abbrev pub PieceStops : Parameters → (old : SinkTold) → (bytes piece : List ℕ) → (room : ℕ) → Feeding → Line → (now : SinkTold) → Stop → Type 0
 PieceStops p old bytes piece room feed line now BadInput = HasAnsweredAll p old (bytes ++ take room piece) feed line now × IsBadPiece feed room piece
 PieceStops p old bytes piece room feed line now ReadFault = ⊥
 PieceStops p old bytes piece room feed line now WriteFault =
     (cut : IsCutOff p old (bytes ++ take room piece) line now) × (IsTrue (is_full cut.before.waiting) ⊎ (IsLast (bytes ++ take room piece) feed cut.rounds cut.before.waiting × IsBadPiece feed room piece))
 PieceStops p old bytes piece room feed line now NoMemory = IsHalted p old (bytes ++ take room piece) line now
-
--- what the sink tells, of both ends
-abbrev pub sunk_of : Ends → Sunk
-sunk_of e = record { written = e.written; flushed = e.flushed; failed = e.writes_failed }
 
 -- a run that begins: nothing was answered, and nothing waits
 pub record IsNew (line : Line) : Type 0 where
@@ -242,12 +229,12 @@ pub record IsNew (line : Line) : Type 0 where
 -- The run has read some bytes of its input: it stands behind them, no frame stands ready, no fault was met, and no read failed.
 pub record IsHearing (p : Parameters) (begun now : Ends) (feed : Feeding) (line : Line) (room : ℕ) : Type 0 where
   pub bytes : List ℕ
-  pub stands : Stands p (sunk_of begun) bytes feed line (sunk_of now)
+  pub stands : Stands p begun.sink bytes feed line now.sink
   pub room_is : length bytes + room ≡ most_bytes
   pub none_ready : feed.ready ≡ []
   pub faultless : feed.fault ≡ None
-  pub consumed : Consumes begun.left now.left bytes
-  pub no_read_failed : now.reads_failed ≡ begun.reads_failed
+  pub consumed : Consumes begun.source.left now.source.left bytes
+  pub no_read_failed : now.source.faults ≡ begun.source.faults
 
 -- what a run leaves that was to serve its input to the end
 abbrev pub Leaves : Parameters → (alone : Bool) → (old new : Ends) → (entries replies : ℕ) → Result ⊤ Stop → Type 0

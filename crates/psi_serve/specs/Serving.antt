@@ -6,7 +6,7 @@ use Rattle.psi_residue.specs.Parameters.{Parameters}
 use Rattle.psi_bundle.specs.declared.history.Entry.{Entry}
 use Rattle.psi_bundle.specs.Versions.{empty_version}
 use Rattle.psi_outside.specs.Causes.{Rose}
-use Rattle.psi_outside.specs.Ends.{Ends}
+use Rattle.psi_outside.specs.Ends.{Ends, SinkTold}
 use Rattle.psi_outside.specs.Streams.{IsAllFlushed}
 use Rattle.psi_frames.specs.declared.frame.Frame.{Frame}
 use Rattle.psi_frames.specs.Frames.{Fault, IsFrame, AreWholeFrames, frames_bytes, most_bytes, request_table}
@@ -32,25 +32,25 @@ pub record Counts (served : Served) (sents : List Sent) : Type 0 where
   pub replies : served.replies ≡ length sents
 
 -- all that the sink holds is flushed; or nothing was written, and as much is flushed as before
-abbrev pub IsFlushedBehind : (old new : Ends) → (text : List ℕ) → Type 0
+abbrev pub IsFlushedBehind : (old new : SinkTold) → (text : List ℕ) → Type 0
 IsFlushedBehind old new text = IsAllFlushed new.written new.flushed ⊎ ((text ≡ []) × (new.flushed ≡ old.flushed))
 
 -- up to the end of the text all is flushed, and no more; or the text is empty, and as much is flushed as before
-abbrev pub IsFlushedTo : (old new : Ends) → (text : List ℕ) → Type 0
+abbrev pub IsFlushedTo : (old new : SinkTold) → (text : List ℕ) → Type 0
 IsFlushedTo old new text = IfSome old.written (λ bytes. IfSome new.flushed (λ count. count ≡ length bytes + length text)) ⊎ ((text ≡ []) × (new.flushed ≡ old.flushed))
 
 -- The replies to these frames were written behind what the sink held, and flushed. The run counts them, and no write failed.
 pub record IsAnswered (p : Parameters) (alone : Bool) (frames : List Frame) (old new : Ends) (served : Served) : Type 0 where
   pub sents : List Sent
   pub replies : AreRepliesTo p alone frames sents
-  pub written : Appends old.written new.written (text_of sents)
-  pub flushed : IsFlushedBehind old new (text_of sents)
+  pub written : Appends old.sink.written new.sink.written (text_of sents)
+  pub flushed : IsFlushedBehind old.sink new.sink (text_of sents)
   pub counts : Counts served sents
-  pub no_write_failed : new.writes_failed ≡ old.writes_failed
+  pub no_write_failed : new.sink.faults ≡ old.sink.faults
 
 -- these bytes are what the source had left, where it tells that
 abbrev pub IsInput : Ends → List ℕ → Type 0
-IsInput old input = IfSome old.left (λ bytes. bytes ≡ input)
+IsInput old input = IfSome old.source.left (λ bytes. bytes ≡ input)
 
 -- 0: the input is whole frames to its end, and these are answered
 pub record IsDone (p : Parameters) (alone : Bool) (old new : Ends) (served : Served) : Type 0 where
@@ -60,8 +60,8 @@ pub record IsDone (p : Parameters) (alone : Bool) (old new : Ends) (served : Ser
   pub frames : List Frame
   pub whole : AreWholeFrames request_table input frames None
   pub answered : IsAnswered p alone frames old new served
-  pub ended : IfSome old.left (λ _. new.left ≡ Some [])
-  pub no_read_failed : new.reads_failed ≡ old.reads_failed
+  pub ended : IfSome old.source.left (λ _. new.source.left ≡ Some [])
+  pub no_read_failed : new.source.faults ≡ old.source.faults
 
 -- 4: the input has a bad frame, or ends within a frame, or is too long; the whole frames before are answered
 pub record IsBadInput (p : Parameters) (alone : Bool) (old new : Ends) (served : Served) : Type 0 where
@@ -72,19 +72,19 @@ pub record IsBadInput (p : Parameters) (alone : Bool) (old new : Ends) (served :
   pub whole : AreWholeFrames request_table input frames fault
   pub bad : IsSome fault ⊎ (most_bytes < length input)
   pub answered : IsAnswered p alone frames old new served
-  pub no_read_failed : new.reads_failed ≡ old.reads_failed
+  pub no_read_failed : new.source.faults ≡ old.source.faults
 
 -- 5: a read failed; the whole frames of the bytes that were taken are answered, and none of these is bad
 pub record IsReadFault (p : Parameters) (alone : Bool) (old new : Ends) (served : Served) : Type 0 where
   pub taken : List ℕ
-  pub consumed : Consumes old.left new.left taken
+  pub consumed : Consumes old.source.left new.source.left taken
   pub size : length taken ≤ most_bytes
   pub frames : List Frame
   pub fault : Option Fault
   pub whole : AreWholeFrames request_table taken frames fault
   pub no_bad_frame : (fault ≡ None) ⊎ (fault ≡ Some Fault.Short)
   pub answered : IsAnswered p alone frames old new served
-  pub failed : Rose old.reads_failed new.reads_failed
+  pub failed : Rose old.source.faults new.source.faults
 
 -- bytes begin with these frames, among those that are looked at
 pub record BeginWith (bytes : List ℕ) (frames : List Frame) : Type 0 where
@@ -107,7 +107,7 @@ IsLastOrFull taken frames round = IsTrue (is_full round) ⊎ ((fault : Option Fa
 -- not flushed. The run counts the replies of the earlier rounds.
 pub record IsWriteFault (p : Parameters) (alone : Bool) (old new : Ends) (served : Served) : Type 0 where
   pub taken : List ℕ
-  pub consumed : Consumes old.left new.left taken
+  pub consumed : Consumes old.source.left new.source.left taken
   pub earlier : List Frame
   pub round : List Frame
   pub begin_with : BeginWith taken (earlier ++ round)
@@ -118,15 +118,15 @@ pub record IsWriteFault (p : Parameters) (alone : Bool) (old new : Ends) (served
   pub done_replies : AreRepliesTo p alone earlier done
   pub last : List Sent
   pub replies : AreRepliesTo p alone (earlier ++ round) (done ++ last)
-  pub front : (n : ℕ) × Appends old.written new.written (text_of done ++ take n (text_of last))
-  pub flushed : IsFlushedTo old new (text_of done)
+  pub front : (n : ℕ) × Appends old.sink.written new.sink.written (text_of done ++ take n (text_of last))
+  pub flushed : IsFlushedTo old.sink new.sink (text_of done)
   pub counts : Counts served done
-  pub failed : Rose old.writes_failed new.writes_failed
+  pub failed : Rose old.sink.faults new.sink.faults
 
 -- 7: memory ran out in some round; the replies of the earlier rounds, which are full, stand whole, and nothing of that round
 pub record IsOutOfMemory (p : Parameters) (alone : Bool) (old new : Ends) (served : Served) : Type 0 where
   pub taken : List ℕ
-  pub consumed : Consumes old.left new.left taken
+  pub consumed : Consumes old.source.left new.source.left taken
   pub frames : List Frame
   pub begin_with : BeginWith taken frames
   pub fill_rounds : FillRounds frames

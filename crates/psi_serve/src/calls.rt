@@ -54,10 +54,10 @@ pub fn serve<R: Threads + Wait + Sync, S: Source, K: Sink, G: Gate>(
     requires passed { ArePassed (parameters_of params.now) }
     requires workers { (1 ≤ shape.workers) × (shape.workers ≤ 8) }
     requires builders { shape.builders ≤ 4 }
-    ensures served { HasServed (parameters_of params.now) (nat_eq shape.workers 1) (ends (S.left source.old) (S.faults source.old) (K.written sink.old) (K.flushed sink.old) (K.faults sink.old))
-        (ends (S.left source.new) (S.faults source.new) (K.written sink.new) (K.flushed sink.new) (K.faults sink.new)) result }
-    ensures good { IfSome (S.left source.old) (λ bytes. IsGoodInput bytes → result.status ≡ 4 → ⊥) }
-    ensures bad { IfSome (S.left source.old) (λ bytes. IsBad bytes → result.status ≡ 0 → ⊥) }
+    ensures served { HasServed (parameters_of params.now) (nat_eq shape.workers 1) (ends (S.told source.old) (K.told sink.old))
+        (ends (S.told source.new) (K.told sink.new)) result }
+    ensures good { IfSome (S.told source.old).left (λ bytes. IsGoodInput bytes → result.status ≡ 4 → ⊥) }
+    ensures bad { IfSome (S.told source.old).left (λ bytes. IsBad bytes → result.status ≡ 0 → ⊥) }
 {
     let round = |book: Book<Cache>, requests: Vec<Request>| -> Result<Round, AllocError>
         requires passed { ArePassed (parameters_of params.now) }
@@ -82,10 +82,10 @@ pub fn serve_alone<R: Threads + Sync, S: Source, K: Sink>(
     sink: &mut K,
 ) -> Served
     requires passed { ArePassed (parameters_of params.now) }
-    ensures served { HasServed (parameters_of params.now) true (ends (S.left source.old) (S.faults source.old) (K.written sink.old) (K.flushed sink.old) (K.faults sink.old))
-        (ends (S.left source.new) (S.faults source.new) (K.written sink.new) (K.flushed sink.new) (K.faults sink.new)) result }
-    ensures good { IfSome (S.left source.old) (λ bytes. IsGoodInput bytes → result.status ≡ 4 → ⊥) }
-    ensures bad { IfSome (S.left source.old) (λ bytes. IsBad bytes → result.status ≡ 0 → ⊥) }
+    ensures served { HasServed (parameters_of params.now) true (ends (S.told source.old) (K.told sink.old))
+        (ends (S.told source.new) (K.told sink.new)) result }
+    ensures good { IfSome (S.told source.old).left (λ bytes. IsGoodInput bytes → result.status ≡ 4 → ⊥) }
+    ensures bad { IfSome (S.told source.old).left (λ bytes. IsBad bytes → result.status ≡ 0 → ⊥) }
 {
     let alone = Alone::open(rt, alloc, params);
     serve_opened(alloc, params, alone, source, sink)
@@ -102,10 +102,10 @@ fn serve_opened<A: Answers + Drop, S: Source, K: Sink>(
     requires passed { ArePassed (parameters_of params.now) }
     requires under { IfOk opened (λ answers. A.is_under answers (parameters_of params.now)) }
     requires none_answered { IfOk opened (λ answers. A.journal answers ≡ []) }
-    ensures served { (alone : Bool) → IfOk opened (λ answers. A.alone answers ≡ alone) → HasServed (parameters_of params.now) alone (ends (S.left source.old) (S.faults source.old) (K.written sink.old) (K.flushed sink.old) (K.faults sink.old))
-        (ends (S.left source.new) (S.faults source.new) (K.written sink.new) (K.flushed sink.new) (K.faults sink.new)) result }
-    ensures good { IfSome (S.left source.old) (λ bytes. IsGoodInput bytes → result.status ≡ 4 → ⊥) }
-    ensures bad { IfSome (S.left source.old) (λ bytes. IsBad bytes → result.status ≡ 0 → ⊥) }
+    ensures served { (alone : Bool) → IfOk opened (λ answers. A.alone answers ≡ alone) → HasServed (parameters_of params.now) alone (ends (S.told source.old) (K.told sink.old))
+        (ends (S.told source.new) (K.told sink.new)) result }
+    ensures good { IfSome (S.told source.old).left (λ bytes. IsGoodInput bytes → result.status ≡ 4 → ⊥) }
+    ensures bad { IfSome (S.told source.old).left (λ bytes. IsBad bytes → result.status ≡ 0 → ⊥) }
 {
     match opened {
         Ok(answers) => serve_by(alloc, params, answers, source, sink),
@@ -128,8 +128,8 @@ fn serve_by<A: Answers + Drop, S: Source, K: Sink>(
     requires passed { ArePassed (parameters_of params.now) }
     requires under { A.is_under answers (parameters_of params.now) }
     requires none_answered { A.journal answers ≡ [] }
-    ensures { HasServed (parameters_of params.now) (A.alone answers) (ends (S.left source.old) (S.faults source.old) (K.written sink.old) (K.flushed sink.old) (K.faults sink.old))
-        (ends (S.left source.new) (S.faults source.new) (K.written sink.new) (K.flushed sink.new) (K.faults sink.new)) result }
+    ensures { HasServed (parameters_of params.now) (A.alone answers) (ends (S.told source.old) (K.told sink.old))
+        (ends (S.told source.new) (K.told sink.new)) result }
 {
     let mut run = Run::new(alloc, answers);
     let status = status_of(run.serve_all(alloc, params, source, sink));

@@ -6,9 +6,9 @@ ghost use Rattle.psi_frames.specs.Frames.{IsFrame, most_bytes, request_table};
 ghost use Rattle.psi_frames.specs.declared.frame.Frame.{Frame};
 ghost use Rattle.psi_frames.specs.Rounds.{IsRound};
 ghost use Rattle.psi_frames.specs.Feeds.{Feeding, HasFed, end_fault};
-ghost use Rattle.psi_outside.specs.Ends.{ends};
+ghost use Rattle.psi_outside.specs.Ends.{SinkTold, ends};
 ghost use Rattle.psi_serve.specs.declared.stop.Stop.TheVariants.{BadInput};
-ghost use Rattle.psi_serve.specs.Runs.{HasAnsweredAll, HasGoneOn, IsBadPiece, IsNew, IsOpen, IsStanding, IsStandingAt, LastStops, Leaves, PieceStops, RoundStops, TakeStops, Takes, Stands, StopsAt, Sunk, line_of, sunk};
+ghost use Rattle.psi_serve.specs.Runs.{HasAnsweredAll, HasGoneOn, IsBadPiece, IsNew, IsOpen, IsStanding, IsStandingAt, LastStops, Leaves, PieceStops, RoundStops, TakeStops, Takes, Stands, StopsAt, line_of};
 
 use crate::answers::Answers;
 use crate::stop::Stop;
@@ -62,8 +62,8 @@ impl<A: Answers> Run<A> {
         requires each { All (IsFrame request_table) self.old.waiting }
         requires round { IsRound self.old.waiting }
         requires room { self.old.replies + length self.old.waiting < 2 ^ 63 }
-        ensures gone { OnOk result (HasGoneOn (parameters_of params.now) (line_of A.alone A.journal self.old) (line_of A.alone A.journal self.new) (sunk (K.written sink.old) (K.flushed sink.old) (K.faults sink.old)) (sunk (K.written sink.new) (K.flushed sink.new) (K.faults sink.new))) }
-        ensures stops { IfErr result (RoundStops (parameters_of params.now) (line_of A.alone A.journal self.old) (line_of A.alone A.journal self.new) (sunk (K.written sink.old) (K.flushed sink.old) (K.faults sink.old)) (sunk (K.written sink.new) (K.flushed sink.new) (K.faults sink.new))) }
+        ensures gone { OnOk result (HasGoneOn (parameters_of params.now) (line_of A.alone A.journal self.old) (line_of A.alone A.journal self.new) (K.told sink.old) (K.told sink.new)) }
+        ensures stops { IfErr result (RoundStops (parameters_of params.now) (line_of A.alone A.journal self.old) (line_of A.alone A.journal self.new) (K.told sink.old) (K.told sink.new)) }
         ensures under { A.is_under self.new.answers (parameters_of params.now) }
         ensures alone { A.alone self.new.answers ≡ A.alone self.old.answers }
     {
@@ -94,8 +94,8 @@ impl<A: Answers> Run<A> {
         requires each { All (IsFrame request_table) (self.old.waiting ++ frame ∷ []) }
         requires open_round { IsOpen self.old.waiting }
         requires room { self.old.replies + length self.old.waiting < 2 ^ 62 }
-        ensures takes { OnOk result (Takes (parameters_of params.now) (line_of A.alone A.journal self.old) (line_of A.alone A.journal self.new) frame (sunk (K.written sink.old) (K.flushed sink.old) (K.faults sink.old)) (sunk (K.written sink.new) (K.flushed sink.new) (K.faults sink.new))) }
-        ensures stops { IfErr result (TakeStops (parameters_of params.now) (line_of A.alone A.journal self.old) (line_of A.alone A.journal self.new) frame (sunk (K.written sink.old) (K.flushed sink.old) (K.faults sink.old)) (sunk (K.written sink.new) (K.flushed sink.new) (K.faults sink.new))) }
+        ensures takes { OnOk result (Takes (parameters_of params.now) (line_of A.alone A.journal self.old) (line_of A.alone A.journal self.new) frame (K.told sink.old) (K.told sink.new)) }
+        ensures stops { IfErr result (TakeStops (parameters_of params.now) (line_of A.alone A.journal self.old) (line_of A.alone A.journal self.new) frame (K.told sink.old) (K.told sink.new)) }
         ensures under { A.is_under self.new.answers (parameters_of params.now) }
         ensures alone { A.alone self.new.answers ≡ A.alone self.old.answers }
     {
@@ -116,11 +116,11 @@ impl<A: Answers> Run<A> {
     ) -> Result<(), Stop>
         requires passed { ArePassed (parameters_of params.now) }
         requires under { A.is_under self.old.answers (parameters_of params.now) }
-        requires standing { IsStanding (parameters_of params.now) feed.old (line_of A.alone A.journal self.old) (sunk (K.written sink.old) (K.flushed sink.old) (K.faults sink.old)) }
-        ensures goes { OnOk result ((old : Sunk) (bytes : List ℕ) → Stands (parameters_of params.now) old bytes feed.old (line_of A.alone A.journal self.old) (sunk (K.written sink.old) (K.flushed sink.old) (K.faults sink.old))
-            → Stands (parameters_of params.now) old bytes feed.new (line_of A.alone A.journal self.new) (sunk (K.written sink.new) (K.flushed sink.new) (K.faults sink.new))) }
-        ensures stops { IfErr result (λ stop. (old : Sunk) (bytes : List ℕ) → Stands (parameters_of params.now) old bytes feed.old (line_of A.alone A.journal self.old) (sunk (K.written sink.old) (K.flushed sink.old) (K.faults sink.old))
-            → StopsAt (parameters_of params.now) old bytes (line_of A.alone A.journal self.new) (sunk (K.written sink.new) (K.flushed sink.new) (K.faults sink.new)) stop) }
+        requires standing { IsStanding (parameters_of params.now) feed.old (line_of A.alone A.journal self.old) (K.told sink.old) }
+        ensures goes { OnOk result ((old : SinkTold) (bytes : List ℕ) → Stands (parameters_of params.now) old bytes feed.old (line_of A.alone A.journal self.old) (K.told sink.old)
+            → Stands (parameters_of params.now) old bytes feed.new (line_of A.alone A.journal self.new) (K.told sink.new)) }
+        ensures stops { IfErr result (λ stop. (old : SinkTold) (bytes : List ℕ) → Stands (parameters_of params.now) old bytes feed.old (line_of A.alone A.journal self.old) (K.told sink.old)
+            → StopsAt (parameters_of params.now) old bytes (line_of A.alone A.journal self.new) (K.told sink.new) stop) }
         ensures taken { OnOk result (feed.new.ready ≡ []) }
         ensures fault { OnOk result (feed.new.fault ≡ feed.old.fault) }
         ensures under { A.is_under self.new.answers (parameters_of params.now) }
@@ -141,11 +141,11 @@ impl<A: Answers> Run<A> {
     ) -> Result<(), Stop>
         requires passed { ArePassed (parameters_of params.now) }
         requires under { A.is_under self.old.answers (parameters_of params.now) }
-        requires standing { (feed : Feeding) × IsStanding (parameters_of params.now) feed (line_of A.alone A.journal self.old) (sunk (K.written sink.old) (K.flushed sink.old) (K.faults sink.old)) }
-        ensures all { OnOk result ((old : Sunk) (bytes : List ℕ) (feed : Feeding) → feed.ready ≡ [] → Stands (parameters_of params.now) old bytes feed (line_of A.alone A.journal self.old) (sunk (K.written sink.old) (K.flushed sink.old) (K.faults sink.old))
-            → HasAnsweredAll (parameters_of params.now) old bytes feed (line_of A.alone A.journal self.new) (sunk (K.written sink.new) (K.flushed sink.new) (K.faults sink.new))) }
-        ensures stops { IfErr result (λ stop. (old : Sunk) (bytes : List ℕ) (feed : Feeding) → feed.ready ≡ [] → Stands (parameters_of params.now) old bytes feed (line_of A.alone A.journal self.old) (sunk (K.written sink.old) (K.flushed sink.old) (K.faults sink.old))
-            → LastStops (parameters_of params.now) old bytes feed (line_of A.alone A.journal self.new) (sunk (K.written sink.new) (K.flushed sink.new) (K.faults sink.new)) stop) }
+        requires standing { (feed : Feeding) × IsStanding (parameters_of params.now) feed (line_of A.alone A.journal self.old) (K.told sink.old) }
+        ensures all { OnOk result ((old : SinkTold) (bytes : List ℕ) (feed : Feeding) → feed.ready ≡ [] → Stands (parameters_of params.now) old bytes feed (line_of A.alone A.journal self.old) (K.told sink.old)
+            → HasAnsweredAll (parameters_of params.now) old bytes feed (line_of A.alone A.journal self.new) (K.told sink.new)) }
+        ensures stops { IfErr result (λ stop. (old : SinkTold) (bytes : List ℕ) (feed : Feeding) → feed.ready ≡ [] → Stands (parameters_of params.now) old bytes feed (line_of A.alone A.journal self.old) (K.told sink.old)
+            → LastStops (parameters_of params.now) old bytes feed (line_of A.alone A.journal self.new) (K.told sink.new) stop) }
         ensures under { A.is_under self.new.answers (parameters_of params.now) }
         ensures alone { A.alone self.new.answers ≡ A.alone self.old.answers }
     {
@@ -168,14 +168,14 @@ impl<A: Answers> Run<A> {
     ) -> Result<usize, Stop>
         requires passed { ArePassed (parameters_of params.now) }
         requires under { A.is_under self.old.answers (parameters_of params.now) }
-        requires standing { IsStandingAt (parameters_of params.now) room feed.old (line_of A.alone A.journal self.old) (sunk (K.written sink.old) (K.flushed sink.old) (K.faults sink.old)) }
-        ensures goes { OnOk result ((old : Sunk) (bytes : List ℕ) → Stands (parameters_of params.now) old bytes feed.old (line_of A.alone A.journal self.old) (sunk (K.written sink.old) (K.flushed sink.old) (K.faults sink.old)) → length bytes + room ≡ most_bytes
-            → Stands (parameters_of params.now) old (bytes ++ piece.now) feed.new (line_of A.alone A.journal self.new) (sunk (K.written sink.new) (K.flushed sink.new) (K.faults sink.new))) }
+        requires standing { IsStandingAt (parameters_of params.now) room feed.old (line_of A.alone A.journal self.old) (K.told sink.old) }
+        ensures goes { OnOk result ((old : SinkTold) (bytes : List ℕ) → Stands (parameters_of params.now) old bytes feed.old (line_of A.alone A.journal self.old) (K.told sink.old) → length bytes + room ≡ most_bytes
+            → Stands (parameters_of params.now) old (bytes ++ piece.now) feed.new (line_of A.alone A.journal self.new) (K.told sink.new)) }
         ensures left { IfOk result (λ left. length piece.now + left ≡ room) }
         ensures faultless { OnOk result (feed.new.fault ≡ None) }
         ensures taken { OnOk result (feed.new.ready ≡ []) }
-        ensures stops { IfErr result (λ stop. (old : Sunk) (bytes : List ℕ) → Stands (parameters_of params.now) old bytes feed.old (line_of A.alone A.journal self.old) (sunk (K.written sink.old) (K.flushed sink.old) (K.faults sink.old)) → length bytes + room ≡ most_bytes
-            → PieceStops (parameters_of params.now) old bytes piece.now room feed.new (line_of A.alone A.journal self.new) (sunk (K.written sink.new) (K.flushed sink.new) (K.faults sink.new)) stop) }
+        ensures stops { IfErr result (λ stop. (old : SinkTold) (bytes : List ℕ) → Stands (parameters_of params.now) old bytes feed.old (line_of A.alone A.journal self.old) (K.told sink.old) → length bytes + room ≡ most_bytes
+            → PieceStops (parameters_of params.now) old bytes piece.now room feed.new (line_of A.alone A.journal self.new) (K.told sink.new) stop) }
         ensures under { A.is_under self.new.answers (parameters_of params.now) }
         ensures alone { A.alone self.new.answers ≡ A.alone self.old.answers }
     {
@@ -199,8 +199,8 @@ impl<A: Answers> Run<A> {
         requires passed { ArePassed (parameters_of params.now) }
         requires under { A.is_under self.old.answers (parameters_of params.now) }
         requires begins { IsNew (line_of A.alone A.journal self.old) }
-        ensures { Leaves (parameters_of params.now) (A.alone self.old.answers) (ends (S.left source.old) (S.faults source.old) (K.written sink.old) (K.flushed sink.old) (K.faults sink.old))
-            (ends (S.left source.new) (S.faults source.new) (K.written sink.new) (K.flushed sink.new) (K.faults sink.new)) self.new.entries self.new.replies result }
+        ensures { Leaves (parameters_of params.now) (A.alone self.old.answers) (ends (S.told source.old) (K.told sink.old))
+            (ends (S.told source.new) (K.told sink.new)) self.new.entries self.new.replies result }
     {
         let mut feed = Feed::open(alloc)?;
         let mut buffer = [0; BUFFER];

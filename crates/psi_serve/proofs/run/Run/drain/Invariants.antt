@@ -1,17 +1,18 @@
 use Rattle.std.proofs.Common.{◌≡◌, ℕ, List, length}
 use Rattle.noise_ledger.specs.Verdicts.{parameters_of}
-use Rattle.psi_serve.specs.Runs.{IsStanding, Stands, Sunk, line_of, sunk}
+use Rattle.psi_serve.specs.Runs.{IsStanding, Stands, line_of}
+use Rattle.psi_outside.specs.Ends.{SinkTold}
 use Rattle.psi_serve.proofs.run.Run.drain.Given as goal
 
 -- the run stands, behind the same bytes as when the loop began
 abbrev pub invariant-loop-frame : goal.invariant-loop-frame
 invariant-loop-frame g l =
     let p = parameters_of l.params in
-    let old = sunk (g.K.Sink.written l.initial.sink) (g.K.Sink.flushed l.initial.sink) (g.K.Sink.faults l.initial.sink) in
-    let new = sunk (g.K.Sink.written l.sink) (g.K.Sink.flushed l.sink) (g.K.Sink.faults l.sink) in
+    let old = g.K.Sink.told l.initial.sink in
+    let new = g.K.Sink.told l.sink in
     record {
       standing : IsStanding p l.feed (line_of g.A.Answers.alone g.A.Answers.journal l.self) new;
-      goes : (begun : Sunk) (bytes : List ℕ) → Stands p begun bytes l.initial.feed (line_of g.A.Answers.alone g.A.Answers.journal l.initial.self) old → Stands p begun bytes l.feed (line_of g.A.Answers.alone g.A.Answers.journal l.self) new;
+      goes : (begun : SinkTold) (bytes : List ℕ) → Stands p begun bytes l.initial.feed (line_of g.A.Answers.alone g.A.Answers.journal l.initial.self) old → Stands p begun bytes l.feed (line_of g.A.Answers.alone g.A.Answers.journal l.self) new;
       fault : l.feed.fault ≡ l.initial.feed.fault;
       under : g.A.Answers.is_under l.self.answers p;
       alone : g.A.Answers.alone l.self.answers ≡ g.A.Answers.alone l.initial.self.answers;

@@ -8,8 +8,8 @@ use Rattle.psi_serve.proofs.run.Run.serve_all.Given as goal
 abbrev pub invariant-loop-self : goal.invariant-loop-self
 invariant-loop-self g l =
     let p = parameters_of l.params in
-    let old = ends (g.S.Source.left l.initial.source) (g.S.Source.faults l.initial.source) (g.K.Sink.written l.initial.sink) (g.K.Sink.flushed l.initial.sink) (g.K.Sink.faults l.initial.sink) in
-    let new = ends (g.S.Source.left l.source) (g.S.Source.faults l.source) (g.K.Sink.written l.sink) (g.K.Sink.flushed l.sink) (g.K.Sink.faults l.sink) in
+    let old = ends (g.S.Source.told l.initial.source) (g.K.Sink.told l.initial.sink) in
+    let new = ends (g.S.Source.told l.source) (g.K.Sink.told l.sink) in
     record {
       hearing : IsHearing p old new l.feed (line_of g.A.Answers.alone g.A.Answers.journal l.self) l.room;
       under : g.A.Answers.is_under l.self.answers p;

@@ -25,7 +25,7 @@ returns-in-Ok-clause-gone g c =
       answers = answers-round p _ _ _ _ requests replies are c.in_ok-requests.ensures.fit c.in_ok-replies.ensures.served c.in_ok-replies.ensures.one_lane;
       alone = c.answer.ensures.alone;
       none_waits = c.take.ensures.none_left;
-      written = subst (λ (t : List ℕ). Appends (g.K.Sink.written c.args.sink.now) (g.K.Sink.written c.write_all.new.sink) t) (c.deref-4.ensures.value ∙ text) c.in-Ok.ensures.written;
+      written = subst (λ (t : List ℕ). Appends (g.K.Sink.told c.args.sink.now).written (g.K.Sink.told c.write_all.new.sink).written t) (c.deref-4.ensures.value ∙ text) c.in-Ok.ensures.written;
       flushed = c.in-Ok.ensures.flushed;
       no_write_failed = c.in-Ok.ensures.cause.kept;
       entries = c.entries-self.ensures;
@@ -44,7 +44,7 @@ returns-clause-stops g c =
       next = addressed requests replies;
       after = g.A.Answers.journal c.answer.new.self;
       answers = answers-round p _ _ _ _ requests replies are c.in_ok-requests.ensures.fit c.in_ok-replies.ensures.served c.in_ok-replies.ensures.one_lane;
-      front = (c.in-Err.ensures.front.0, subst (λ (t : List ℕ). Appends (g.K.Sink.written c.args.sink.now) (g.K.Sink.written c.write_all.new.sink) (take c.in-Err.ensures.front.0 t)) (c.deref-4.ensures.value ∙ text) c.in-Err.ensures.front.1);
+      front = (c.in-Err.ensures.front.0, subst (λ (t : List ℕ). Appends (g.K.Sink.told c.args.sink.now).written (g.K.Sink.told c.write_all.new.sink).written (take c.in-Err.ensures.front.0 t)) (c.deref-4.ensures.value ∙ text) c.in-Err.ensures.front.1);
       flushed = c.in-Err.ensures.unflushed;
       failed = omega (arith, c.in-Err.ensures.cause.failed);
       counts = record { alone = c.answer.ensures.alone; entries = refl; replies = refl };
