@@ -24,3 +24,8 @@ pub mod Pairs
 pub mod Places
 pub mod Renumbered
 pub mod Joins
+pub mod OneFrames
+pub mod OneRounds
+pub mod OneHistory
+pub mod ReplyTexts
+pub mod NeverMoved

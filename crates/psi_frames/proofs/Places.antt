@@ -23,7 +23,7 @@ abbrev pub IsBelow : ℕ → Exchange → Type 0
 IsBelow high e = (x : ℕ) → place_of e.reply ≡ Some x → x < high
 
 -- a request without a code makes a call
-makes_call : (r : Request) (from : ℕ) → code_of r ≡ None → (c : Call) × (call_of r from ≡ Some c)
+pub makes_call : (r : Request) (from : ℕ) → code_of r ≡ None → (c : Call) × (call_of r from ≡ Some c)
 makes_call (request.Put session number tag label) from e = (_, refl)
 makes_call (request.Drop session number tag) from e = (_, refl)
 makes_call (request.Ask session number query) from e = (_, refl)

@@ -36,3 +36,9 @@ pub record AreRounds (rounds : List (List Frame)) (frames : List Frame) : Type 0
 -- the rounds of requests that rounds of frames are
 abbrev pub request_rounds : Parameters → List (List Frame) → List (List Request)
 request_rounds p rounds = map (requests_from p 0) rounds
+
+-- Frames fall into one list of rounds.
+abbrev pub RoundsAreOne : Type 0
+RoundsAreOne =
+    (frames : List Frame) (rounds others : List (List Frame))
+    → AreRounds rounds frames → AreRounds others frames → rounds ≡ others

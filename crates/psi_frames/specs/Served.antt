@@ -259,3 +259,11 @@ pub record IsServingTextOf (p : Parameters) (start : Version) (given : List Entr
   pub rounds : List (List Frame)
   pub are_rounds : AreRounds rounds frames
   pub serving : IsServingText p start given (request_rounds p rounds) text
+
+-- Rounds and their replies have one history behind a given one, where the places of each round follow on.
+abbrev pub HistoryIsOne : Type 0
+HistoryIsOne =
+    (given history other : List Entry) (rounds : List (List Request)) (sents : List Sent)
+    → PlacesFollowOn given rounds (exchanges rounds sents)
+    → IsHistoryOf given history (exchanges rounds sents) → IsHistoryOf given other (exchanges rounds sents)
+    → history ≡ other

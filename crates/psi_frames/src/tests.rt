@@ -90,6 +90,7 @@ fn pieces_of_any_size_give_the_same_frames(rt: HostRuntime) {
         assert!(rt; feed.next().is_none());
     }
     pieces_do_not_matter();
+    an_input_is_read_in_one_way();
 }
 
 #[test]
@@ -147,12 +148,16 @@ fn frames_of_the_table_tell_replies(rt: HostRuntime) {
 #[test]
 fn a_reply_is_read_from_its_frame(rt: HostRuntime) {
     let alloc = rt.alloc();
-    let text = write_answer(alloc, 1, 1, &Reply::Added { place: 3 }).expect(&rt, "memory");
+    let mut text = write_answer(alloc, 1, 1, &Reply::Added { place: 3 }).expect(&rt, "memory");
+    assert!(rt; append_answer(&mut text, 1, 2, &Reply::Refused { code: 7 }).is_ok());
     let mut feed = Feed::replies(alloc).expect(&rt, "memory");
     assert!(rt; feed.feed(alloc, &text).is_ok());
     let frame = feed.next().expect(&rt, "a frame");
     let reply = read_answer(alloc, &frame).expect(&rt, "memory");
     assert!(rt; matches!(reply, Some(Reply::Added { place: 3 })));
+    assert_next(&rt, &mut feed, 137, 1, 2, b"\x07");
+    a_text_of_replies_is_read_in_one_way();
+    no_reply_begins_another();
 }
 
 #[test]
@@ -195,6 +200,9 @@ fn the_requests_of_a_round(rt: HostRuntime) {
     let text = write_request(alloc, &frames[0]).expect(&rt, "memory");
     assert!(rt; text.as_slice() == b"\x00\x00\x00\x08\x02\x00\x01\x00\x00\x00\x01\x00".as_slice());
     no_request_begins_another();
+    served_rounds_have_one_history();
+    one_text_is_of_one_lane();
+    one_lane_never_moves();
     let requests = requests_of_round(alloc, &params, 0, frames).expect(&rt, "memory");
     assert_eq!(rt; requests.len(), 1);
     let addresses = addresses_of(alloc, &requests).expect(&rt, "memory");

@@ -5,7 +5,10 @@ ghost use Rattle.psi_frames.specs.Frames.{IsFrame, answer_fits, frame_bytes, gre
 
 use crate::frame::{Frame, HEAD_BYTES};
 use crate::number::{push_u8, push_u16, push_u32, push_u64};
-use crate::reply::{CODE_BYTES, FULL_BYTES, MOVED_BYTES, PLACE_BYTES, REPACKED_BYTES, Reply};
+use crate::reply::{
+    ABSENT, ADDED, ANSWER, FULL, FULL_BYTES, MOVED, MOVED_BYTES, PLACE_BYTES, REFUSED,
+    REFUSED_BYTES, REMOVED, REPACKED, REPACKED_BYTES, REPLACED, Reply,
+};
 use std::alloc::{AllocError, Global};
 
 /// The reply's frame, with the session and the number of its request. The body of an Answer leaves the
@@ -57,21 +60,21 @@ pub fn append_answer(
     ensures appended { OnOk result (text.new.items ≡ text.old.items ++ reply_frame_bytes session number reply.now) }
 {
     match reply {
-        Reply::Added { place } => push_placed(text, 129, session, number, *place, 0),
-        Reply::Replaced { place } => push_placed(text, 130, session, number, *place, 0),
-        Reply::Removed { place } => push_placed(text, 131, session, number, *place, 0),
-        Reply::Absent { place } => push_placed(text, 132, session, number, *place, 0),
+        Reply::Added { place } => push_placed(text, ADDED, session, number, *place, 0),
+        Reply::Replaced { place } => push_placed(text, REPLACED, session, number, *place, 0),
+        Reply::Removed { place } => push_placed(text, REMOVED, session, number, *place, 0),
+        Reply::Absent { place } => push_placed(text, ABSENT, session, number, *place, 0),
         Reply::Full {
             place,
             planes,
             cells,
         } => {
-            push_placed(text, 133, session, number, *place, 8)?;
+            push_placed(text, FULL, session, number, *place, 8)?;
             push_u32(text, *planes)?;
             push_u32(text, *cells)
         }
         Reply::Answer { place, body } => {
-            push_placed(text, 134, session, number, *place, body.items().len())?;
+            push_placed(text, ANSWER, session, number, *place, body.items().len())?;
             text.extend_from_slice(body.items())
         }
         Reply::Repacked {
@@ -80,18 +83,18 @@ pub fn append_answer(
             before,
             after,
         } => {
-            push_placed(text, 135, session, number, *place, 12)?;
+            push_placed(text, REPACKED, session, number, *place, 12)?;
             push_u64(text, *from)?;
             push_u16(text, *before)?;
             push_u16(text, *after)
         }
         Reply::Moved { place, from, stamp } => {
-            push_placed(text, 136, session, number, *place, 16)?;
+            push_placed(text, MOVED, session, number, *place, 16)?;
             push_u64(text, *from)?;
             push_u64(text, *stamp)
         }
         Reply::Refused { code } => {
-            push_head(text, 137, session, number, 1)?;
+            push_head(text, REFUSED, session, number, REFUSED_BYTES)?;
             push_u8(text, *code)
         }
     }
@@ -119,7 +122,7 @@ fn content_length(reply: &Reply) -> usize
         Reply::Answer { body, .. } => PLACE_BYTES + body.items().len(),
         Reply::Repacked { .. } => REPACKED_BYTES,
         Reply::Moved { .. } => MOVED_BYTES,
-        Reply::Refused { .. } => CODE_BYTES,
+        Reply::Refused { .. } => REFUSED_BYTES,
     }
 }
 

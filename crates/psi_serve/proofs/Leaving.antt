@@ -22,7 +22,7 @@ use Rattle.query_pool.specs.declared.round.Served.{Served}
 use Rattle.psi_serve.specs.declared.stop.Stop.{Stop}
 use Rattle.psi_serve.specs.declared.stop.Stop.TheVariants.{BadInput, ReadFault, WriteFault, NoMemory}
 use Rattle.psi_serve.specs.Serving.{AreRepliesTo, BeginWith, Counts, FillRounds, HasServed, IsAnswered, IsBadInput, IsDone, IsFlushedTo, IsInput, IsLastOrFull, IsOutOfMemory, IsReadFault, IsWriteFault}
-use Rattle.psi_serve.specs.Runs.{AreFull, BeginWithRounds, HasAnswered, HasAnsweredAll, IsBadPiece, IsCutOff, IsHalted, IsHearing, IsNew, IsOpen, LastStops, Leaves, Line, PieceStops, frames_of}
+use Rattle.psi_serve.specs.Runs.{AreFull, BeginWithRounds, HasAnswered, HasAnsweredAll, IsBadPiece, IsCutOff, IsHalted, IsHearing, IsNew, IsOpen, LastStops, Leaves, Line, PieceStops, frames_of, status_of}
 use Rattle.psi_serve.proofs.Fewer.{frames-fewer, places-entries}
 use Rattle.psi_serve.proofs.Going.{are-rounds, frames-more, full-rounds, lane-more, open-nil, served-more}
 use Rattle.psi_frames.proofs.Joins.{none_lane, none_served}
@@ -446,3 +446,50 @@ none-served p alone now served status entries replies =
       write_fault = λ e. absurd (omega (arith, e, status));
       no_memory = λ e. leaves-new p now line new served entries replies;
     }
+
+-- what a run leaves, by its status
+pub has-served : (p : Parameters) (other alone : Bool) (old new : Ends) (served : Served) (end : Result ⊤ Stop) → other ≡ alone → Leaves p other old new served.entries served.replies end → served.status ≡ status_of end
+    → HasServed p alone old new served
+has-served p other alone old new served end same leaves status =
+    by_end end (subst (λ (b : Bool). Leaves p b old new served.entries served.replies end) same leaves) status where
+      by_end : (r : Result ⊤ Stop) → Leaves p alone old new served.entries served.replies r → served.status ≡ status_of r → HasServed p alone old new served
+      by_end (Ok done) leaves status = record {
+        statuses = inl status;
+        done = λ e. leaves served refl refl;
+        bad_input = λ e. absurd (omega (arith, e, status));
+        read_fault = λ e. absurd (omega (arith, e, status));
+        write_fault = λ e. absurd (omega (arith, e, status));
+        no_memory = λ e. absurd (omega (arith, e, status));
+      }
+      by_end (Err BadInput) leaves status = record {
+        statuses = inr (inl status);
+        done = λ e. absurd (omega (arith, e, status));
+        bad_input = λ e. leaves served refl refl;
+        read_fault = λ e. absurd (omega (arith, e, status));
+        write_fault = λ e. absurd (omega (arith, e, status));
+        no_memory = λ e. absurd (omega (arith, e, status));
+      }
+      by_end (Err ReadFault) leaves status = record {
+        statuses = inr (inr (inl status));
+        done = λ e. absurd (omega (arith, e, status));
+        bad_input = λ e. absurd (omega (arith, e, status));
+        read_fault = λ e. leaves served refl refl;
+        write_fault = λ e. absurd (omega (arith, e, status));
+        no_memory = λ e. absurd (omega (arith, e, status));
+      }
+      by_end (Err WriteFault) leaves status = record {
+        statuses = inr (inr (inr (inl status)));
+        done = λ e. absurd (omega (arith, e, status));
+        bad_input = λ e. absurd (omega (arith, e, status));
+        read_fault = λ e. absurd (omega (arith, e, status));
+        write_fault = λ e. leaves served refl refl;
+        no_memory = λ e. absurd (omega (arith, e, status));
+      }
+      by_end (Err NoMemory) leaves status = record {
+        statuses = inr (inr (inr (inr status)));
+        done = λ e. absurd (omega (arith, e, status));
+        bad_input = λ e. absurd (omega (arith, e, status));
+        read_fault = λ e. absurd (omega (arith, e, status));
+        write_fault = λ e. absurd (omega (arith, e, status));
+        no_memory = λ e. leaves served refl refl;
+      }
