@@ -4,18 +4,20 @@ use Rattle.std.specs.List.{All}
 use Rattle.std.proofs.lemmas.Bool.{cases_lt}
 use Rattle.std.proofs.lemmas.List.{get_or_past, map-append}
 use Rattle.std.proofs.lemmas.List.Concat.{flat_map-append}
-use Rattle.std.proofs.lemmas.List.Elements.{All-append, All-cons, All-head, All-nil, All-tail}
+use Rattle.std.proofs.lemmas.List.Elements.{All-append, All-cons, All-head, All-nil, All-tail, All-weaker}
 use Rattle.psi_frames.specs.declared.frame.Frame.{Frame}
 use Rattle.psi_frames.specs.declared.reply.Reply.{Reply}
 use Rattle.psi_frames.specs.Feeds.{EndsIn, Feeding, HasFed, IsCut, end_fault, table_of}
 use Rattle.psi_frames.specs.Frames.{Fault, Short, IsFrame, IsSpellable, answer_fits, frame_bytes, frames_bytes, front_fault, reply_frame_bytes, reply_content, reply_kind, reply_table, spelled}
 use Rattle.psi_frames.specs.ReplyFrames.{Tells, is_reply_row, told_reply}
+use Rattle.psi_frames.specs.ReplyTexts.{AreReplies, CanBeSent}
 use Rattle.psi_frames.specs.Served.{Sent, text_of}
 use Rattle.psi_frames.proofs.Bytes.{byte-rest}
 use Rattle.psi_frames.proofs.Feeding.{no_fault}
 use Rattle.psi_frames.proofs.FrameLaws.{length-frame_append, one_frame}
 use Rattle.psi_frames.proofs.Readings.{begins-frame}
 use Rattle.psi_frames.proofs.ReplyLaws.{row-tells}
+use Rattle.psi_frames.proofs.ReplyTexts.{can-one, can-told, read_back, their_text}
 use Rattle.psi_demo.specs.Replies.{AreFit, AreSent, BeginsNoReply, IsTorn, replies_of}
 use Rattle.psi_demo.proofs.ReplyFrames.{reply-row, sent-body, sent-bytes, sent-is, sent-kind, sent_frame}
 use Rattle.psi_demo.proofs.Tallies.{torn-never}
@@ -23,7 +25,7 @@ use Rattle.psi_demo.proofs.Tallies.{torn-never}
 -- The replies so far, and their bytes; behind them the frames that stand ready in the feed, and what ends these.
 pub record IsRead (bytes : List ℕ) (feed : Feeding) (replies : List Reply) (offset : ℕ) : Type 0 where
   pub before : List Sent
-  pub fit : AreFit before
+  pub can : All CanBeSent before
   pub told : replies ≡ replies_of before
   pub reached : offset ≡ length (text_of before)
   pub tail : List ℕ
@@ -35,7 +37,7 @@ pub record IsRead (bytes : List ℕ) (feed : Feeding) (replies : List Reply) (of
 pub read-first : (bytes : List ℕ) (feed : Feeding) → HasFed feed bytes [] → feed.replies ≡ true → IsRead bytes feed [] 0
 read-first bytes feed fed replies =
     let cut : IsCut reply_table bytes feed.ready feed.rest feed.fault = subst (λ (b : Bool). IsCut (table_of b) bytes feed.ready feed.rest feed.fault) replies fed in
-    record { before = []; fit = All-nil (λ (s : Sent). answer_fits s.reply); told = refl; reached = refl; tail = cut.tail; whole = cut.whole; each = cut.each; ended = cut.ended }
+    record { before = []; can = All-nil CanBeSent; told = refl; reached = refl; tail = cut.tail; whole = cut.whole; each = cut.each; ended = cut.ended }
 
 -- a reply in a frame that tells it
 sent_in-bytes : (f : Frame) (r : Reply) → Tells f.kind f.body r → reply_frame_bytes f.session f.number r ≡ frame_bytes f
@@ -53,10 +55,10 @@ read-more bytes old new f r replies now offset size was next tells more long =
     let is : IsRead bytes (record new { ready = f ∷ new.ready }) replies offset = subst (λ (g : Feeding). IsRead bytes g replies offset) next was in
     let s : Sent = record { session = f.session; number = f.number; reply = r } in
     let text = text-more is.before f r tells in
-    let fits_one : answer_fits r = subst (λ (b : List ℕ). 7 + length b ≤ 196608015) (sym tells.same_body) (All-head (IsFrame reply_table) f new.ready is.each).spellable.length in
+    let can_one = can-one f s (All-head (IsFrame reply_table) f new.ready is.each) (record { session = refl; number = refl; reply = tells }) in
     record {
       before = is.before ++ s ∷ [];
-      fit = All-append (λ (t : Sent). answer_fits t.reply) is.before (s ∷ []) is.fit (All-cons (λ (t : Sent). answer_fits t.reply) s [] fits_one (All-nil (λ (t : Sent). answer_fits t.reply)));
+      can = All-append CanBeSent is.before (s ∷ []) is.can (All-cons CanBeSent s [] can_one (All-nil CanBeSent));
       told = more ∙ ap (λ (rs : List Reply). rs ++ r ∷ []) is.told ∙ sym (map-append (λ (t : Sent). t.reply) is.before (s ∷ []));
       reached = omega (arith, is.reached, long, ap length text, length-append (text_of is.before) (frame_bytes f));
       tail = is.tail;
@@ -75,6 +77,14 @@ read-within bytes old new f replies offset size was next long =
     let is : IsRead bytes (record new { ready = f ∷ new.ready }) replies offset = subst (λ (g : Feeding). IsRead bytes g replies offset) next was in
     omega (arith, is.reached, long, ap length is.whole, length-append (text_of is.before) (frames_bytes (f ∷ new.ready) ++ is.tail), length-append (frames_bytes (f ∷ new.ready)) is.tail, length-append (frame_bytes f) (frames_bytes new.ready))
 
+-- replies that can be sent fit
+fits-all : (ss : List Sent) → All CanBeSent ss → AreFit ss
+fits-all ss can = All-weaker CanBeSent (λ (s : Sent). answer_fits s.reply) (λ s h. h.fits) ss can
+
+-- so bytes that are read as replies are those of replies that fit
+pub read-sent : (bytes : List ℕ) (sents : List Sent) → AreReplies bytes sents → AreSent bytes sents
+read-sent bytes sents are = record { text = their_text bytes sents are; fit = fits-all sents (can-told are.frames sents are.each are.told) }
+
 -- a part that begins no reply is torn
 torn : (bytes : List ℕ) (feed : Feeding) (replies : List Reply) (offset : ℕ) (rest : List ℕ) → (is : IsRead bytes feed replies offset) → ((i : ℕ) → slice_index bytes i < 256)
     → frames_bytes feed.ready ++ is.tail ≡ rest → 0 < length rest → BeginsNoReply rest → IsTorn bytes offset
@@ -82,13 +92,13 @@ torn bytes feed replies offset rest is each same some none =
     let whole : bytes ≡ text_of is.before ++ rest = is.whole ∙ ap (λ (t : List ℕ). text_of is.before ++ t) same in
     record {
       before = is.before;
-      fit = is.fit;
+      fit = fits-all is.before is.can;
       rest = rest;
       whole = whole;
       reached = is.reached;
       some = some;
       none = none;
-      never = torn-never is.before rest bytes each whole is.fit some none;
+      never = torn-never is.before rest bytes each whole (fits-all is.before is.can) some none;
     }
 
 -- a byte of a frame's body, and 0 behind its end
@@ -157,11 +167,12 @@ read-torn bytes feed replies offset fault is ready ends each =
     torn bytes feed replies offset is.tail is each same (some-faulty is.tail met.0 met.1) (faulty is.tail met.0 met.1 (byte-rest bytes (text_of is.before) is.tail whole each))
 
 pub read-ended : (bytes : List ℕ) (feed : Feeding) (replies : List Reply) (offset : ℕ) → IsRead bytes feed replies offset → feed.ready ≡ [] → end_fault feed.fault feed.rest ≡ None
-    → (sents : List Sent) × AreSent bytes sents × (replies ≡ replies_of sents)
+    → (sents : List Sent) × AreReplies bytes sents × (replies ≡ replies_of sents)
 read-ended bytes feed replies offset is ready ends =
     let none = end-none is.tail feed.rest feed.fault is.ended ends in
     let same : frames_bytes feed.ready ++ is.tail ≡ [] = (λ i. frames_bytes (ready i) ++ none i) in
-    (is.before, record { text = is.whole ∙ ap (λ (t : List ℕ). text_of is.before ++ t) same ∙ append-nil (text_of is.before); fit = is.fit }, is.told)
+    let text : bytes ≡ text_of is.before = is.whole ∙ ap (λ (t : List ℕ). text_of is.before ++ t) same ∙ append-nil (text_of is.before) in
+    (is.before, subst (λ (b : List ℕ). AreReplies b is.before) (sym text) (read_back is.before is.can), is.told)
 
 -- the same of a feed that was asked once more for a frame, and has none
 pub torn-end : (bytes : List ℕ) (feed now : Feeding) (replies : List Reply) (offset : ℕ) → IsRead bytes feed replies offset → feed.ready ≡ [] → now ≡ feed → ((fault : Fault) × (end_fault now.fault now.rest ≡ Some fault))
@@ -170,5 +181,5 @@ torn-end bytes feed now replies offset is ready same ends each =
     read-torn bytes feed replies offset ends.0 is ready (subst (λ (f : Feeding). end_fault f.fault f.rest ≡ Some ends.0) same ends.1) each
 
 pub whole-end : (bytes : List ℕ) (feed now : Feeding) (replies : List Reply) (offset : ℕ) → IsRead bytes feed replies offset → feed.ready ≡ [] → now ≡ feed → end_fault now.fault now.rest ≡ None
-    → (sents : List Sent) × AreSent bytes sents × (replies ≡ replies_of sents)
+    → (sents : List Sent) × AreReplies bytes sents × (replies ≡ replies_of sents)
 whole-end bytes feed now replies offset is ready same ends = read-ended bytes feed replies offset is ready (subst (λ (f : Feeding). end_fault f.fault f.rest ≡ None) same ends)

@@ -6,35 +6,14 @@ use Rattle.byteorder.specs.Endian.{big_bytes}
 use Rattle.psi_frames.specs.declared.frame.Frame.{Frame}
 use Rattle.psi_frames.specs.declared.reply.Reply.{Reply}
 use Rattle.psi_frames.specs.declared.reply.Reply.TheVariants as reply
-use Rattle.psi_frames.specs.Frames.{IsFrame, answer_fits, frame_bytes, head_bytes, is_kind_between, reply_frame_bytes, reply_content, reply_kind, reply_table, spelled}
+use Rattle.psi_frames.specs.Frames.{IsFrame, added_kind, answer_fits, frame_bytes, head_bytes, refused_kind, reply_frame_bytes, reply_content, reply_kind, reply_table, spelled}
 use Rattle.psi_frames.specs.ReplyFrames.{is_reply_row}
 use Rattle.psi_frames.specs.Served.{Sent}
 use Rattle.psi_frames.proofs.Bytes.{byte-front, byte-rest}
 use Rattle.psi_frames.proofs.FrameLaws.{one_frame}
+use Rattle.psi_frames.proofs.ReplyTexts.{kind-between, some-content}
 
--- the kind of a reply, the length of its body, and both as a row of the table
-kind-between : (r : Reply) → is_kind_between 129 137 (reply_kind r) ≡ true
-kind-between (reply.Added place) = refl
-kind-between (reply.Replaced place) = refl
-kind-between (reply.Removed place) = refl
-kind-between (reply.Absent place) = refl
-kind-between (reply.Full place planes cells) = refl
-kind-between (reply.Answer place body) = refl
-kind-between (reply.Repacked place from before after) = refl
-kind-between (reply.Moved place from stamp) = refl
-kind-between (reply.Refused code) = refl
-
-some-content : (r : Reply) → 1 ≤ length (reply_content r)
-some-content (reply.Added place) = omega arith
-some-content (reply.Replaced place) = omega arith
-some-content (reply.Removed place) = omega arith
-some-content (reply.Absent place) = omega arith
-some-content (reply.Full place planes cells) = omega arith
-some-content (reply.Answer place body) = omega (arith, length-append (big_bytes 8 place) body)
-some-content (reply.Repacked place from before after) = omega arith
-some-content (reply.Moved place from stamp) = omega arith
-some-content (reply.Refused code) = omega arith
-
+-- the kind of a reply and the length of its body are a row of the table
 pub reply-row : (r : Reply) → is_reply_row (reply_kind r) (length (reply_content r)) ≡ true
 reply-row (reply.Added place) = refl
 reply-row (reply.Replaced place) = refl
@@ -91,9 +70,9 @@ content-bytes s more bytes is each =
 pub sent-is : (s : Sent) (more bytes : List ℕ) → answer_fits s.reply → bytes ≡ reply_frame_bytes s.session s.number s.reply ++ more → ((i : ℕ) → slice_index bytes i < 256) → IsFrame reply_table (sent_frame s)
 unfolding sent_frame
 sent-is s more bytes fits is each =
-    let between = and_parts (nat_le 129 (reply_kind s.reply)) (nat_le (reply_kind s.reply) 137) (kind-between s.reply) in
-    let low = leb-true 129 (reply_kind s.reply) between.0 in
-    let high = leb-true (reply_kind s.reply) 137 between.1 in
+    let between = and_parts (nat_le added_kind (reply_kind s.reply)) (nat_le (reply_kind s.reply) refused_kind) (kind-between s.reply) in
+    let low = leb-true added_kind (reply_kind s.reply) between.0 in
+    let high = leb-true (reply_kind s.reply) refused_kind between.1 in
     record {
       spellable = record {
         kind = omega (arith, high);

@@ -7,7 +7,7 @@ use Rattle.cuckoo_place.specs.Placements.{HasNoPlacement}
 use Rattle.query_codec.specs.declared.fault.CodecFault.{CodecFault}
 use Rattle.query_codec.specs.Replies.{IsReply, reply_fault}
 use Rattle.psi_frames.specs.declared.reply.Reply.{Reply}
-use Rattle.psi_frames.specs.Frames.{reply_kind}
+use Rattle.psi_frames.specs.Frames.{added_kind, answer_kind, removed_kind, reply_kind}
 use Rattle.psi_frames.specs.Served.{Sent, body_of}
 use Rattle.psi_receiver.specs.declared.found.Found.{Found}
 use Rattle.psi_receiver.specs.Openings.{AreOpened}
@@ -38,9 +38,9 @@ pub record Tally : Type 0 where
 abbrev pub tally_of : List Reply → Tally
 tally_of replies = record {
   replies = length replies;
-  added = count_kind 129 replies;
-  removed = count_kind 131 replies;
-  asks = count_kind 134 replies;
+  added = count_kind added_kind replies;
+  removed = count_kind removed_kind replies;
+  asks = count_kind answer_kind replies;
   bodies = bodies_of replies;
 }
 

@@ -4,8 +4,9 @@ ghost use Rattle.psi_frames.specs.declared.reply.Reply.{Reply};
 ghost use Rattle.psi_frames.specs.Feeds.{HasFed, end_fault};
 ghost use Rattle.psi_frames.specs.Frames.{Fault, frame_bytes};
 ghost use Rattle.psi_frames.specs.ReplyFrames.{Tells};
+ghost use Rattle.psi_frames.specs.ReplyTexts.{AreReplies};
 ghost use Rattle.psi_frames.specs.Served.{Sent};
-ghost use Rattle.psi_demo.specs.Replies.{AreSent, IsReadFault, replies_of};
+ghost use Rattle.psi_demo.specs.Replies.{IsReadFault, replies_of};
 
 use crate::fault::SumFault;
 use psi_frames::{Feed, Frame, FrameFault, Reply, read_answer};
@@ -14,10 +15,10 @@ use std::alloc::{AllocError, Global};
 // The bytes of a frame before its body.
 const BEFORE_BODY: u64 = 11;
 
-/// The replies whose frames the bytes are, one after another. `Torn` comes exactly where the bytes are no list of whole
+/// The replies whose frames the bytes are, one after another: they are read so in one way. `Torn` comes exactly where the bytes are no list of whole
 /// reply frames, with the offset of the first part that begins none; the only other error is memory that runs out.
 pub fn read_replies(alloc: Global, bytes: &[u8]) -> Result<Vec<Reply>, SumFault>
-    ensures read { IfOk result (λ replies. (sents : List Sent) × AreSent bytes.now sents × (replies.items ≡ replies_of sents)) }
+    ensures read { IfOk result (λ replies. (sents : List Sent) × AreReplies bytes.now sents × (replies.items ≡ replies_of sents)) }
     ensures fault { IfErr result (IsReadFault bytes.now) }
 {
     let mut feed = fed(alloc, bytes)?;

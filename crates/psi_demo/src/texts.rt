@@ -4,16 +4,9 @@ ghost use Rattle.psi_frames.specs.Frames.{reply_kind};
 ghost use Rattle.psi_demo.specs.Summaries.{count_kind, tally_of};
 ghost use Rattle.psi_demo.specs.Texts.{number_line, spaced, stable_line, summary_text};
 
-use psi_frames::Reply;
+use psi_frames::{ABSENT, ADDED, ANSWER, FULL, MOVED, REFUSED, REMOVED, REPACKED, REPLACED, Reply};
 use std::alloc::{AllocError, Global};
 use std::fmt::Write;
-
-// The kinds of replies that are counted by themselves.
-const ADDED: u8 = 129;
-
-const REMOVED: u8 = 131;
-
-const ANSWER: u8 = 134;
 
 /// The six lines: the number, how many replies there are, how many of them are of each of three kinds, and the numbers of
 /// the line `stable`.
@@ -82,13 +75,13 @@ fn kind_of(reply: &Reply) -> u8
 {
     match reply {
         Reply::Added { .. } => ADDED,
-        Reply::Replaced { .. } => 130,
+        Reply::Replaced { .. } => REPLACED,
         Reply::Removed { .. } => REMOVED,
-        Reply::Absent { .. } => 132,
-        Reply::Full { .. } => 133,
+        Reply::Absent { .. } => ABSENT,
+        Reply::Full { .. } => FULL,
         Reply::Answer { .. } => ANSWER,
-        Reply::Repacked { .. } => 135,
-        Reply::Moved { .. } => 136,
-        Reply::Refused { .. } => 137,
+        Reply::Repacked { .. } => REPACKED,
+        Reply::Moved { .. } => MOVED,
+        Reply::Refused { .. } => REFUSED,
     }
 }

@@ -18,3 +18,14 @@ pub mod Counting
 pub mod Readings
 pub mod RoundRequests
 pub mod ReplyLaws
+pub mod Sending
+pub mod FirstRounds
+pub mod Pairs
+pub mod Places
+pub mod Renumbered
+pub mod Joins
+pub mod OneFrames
+pub mod OneRounds
+pub mod OneHistory
+pub mod ReplyTexts
+pub mod NeverMoved

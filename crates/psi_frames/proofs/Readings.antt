@@ -42,7 +42,7 @@ ends-cut table tail rest None (same, inl none) begins = let some = begins.some i
 ends-cut table tail rest None (same, inr short) begins = absurd (let a = begins.faultless in let b : front_fault table tail ≡ Some Short = ap (front_fault table) same ∙ short in cc)
 
 -- two cuts of the same bytes
-one-cut : (table : Table) (fs gs : List Frame) (t u : List ℕ) → All (IsFrame table) fs → All (IsFrame table) gs → (BeginsWhole table t → ⊥) → (BeginsWhole table u → ⊥)
+pub one-cut : (table : Table) (fs gs : List Frame) (t u : List ℕ) → All (IsFrame table) fs → All (IsFrame table) gs → (BeginsWhole table t → ⊥) → (BeginsWhole table u → ⊥)
     → frames_bytes fs ++ t ≡ frames_bytes gs ++ u → (fs ≡ gs) × (t ≡ u)
 one-cut table [] [] t u each_f each_g stuck_t stuck_u e = (refl, e)
 one-cut table [] (g ∷ gs) t u each_f each_g stuck_t stuck_u e =

@@ -22,6 +22,34 @@ repack_kind = 4
 abbrev pub go_kind : ℕ
 go_kind = 5
 
+-- kinds of reply
+abbrev pub added_kind : ℕ
+added_kind = 129
+
+abbrev pub replaced_kind : ℕ
+replaced_kind = 130
+
+abbrev pub removed_kind : ℕ
+removed_kind = 131
+
+abbrev pub absent_kind : ℕ
+absent_kind = 132
+
+abbrev pub full_kind : ℕ
+full_kind = 133
+
+abbrev pub answer_kind : ℕ
+answer_kind = 134
+
+abbrev pub repacked_kind : ℕ
+repacked_kind = 135
+
+abbrev pub moved_kind : ℕ
+moved_kind = 136
+
+abbrev pub refused_kind : ℕ
+refused_kind = 137
+
 -- the bytes that the length word counts before the body: the kind, the session and the number
 abbrev pub head_bytes : ℕ
 head_bytes = 7
@@ -65,7 +93,7 @@ request_table = record { least = head_bytes; has_kind = is_kind_between put_kind
 
 -- replies
 abbrev pub reply_table : Table
-reply_table = record { least = head_bytes + 1; has_kind = is_kind_between 129 137 }
+reply_table = record { least = head_bytes + 1; has_kind = is_kind_between added_kind refused_kind }
 
 -- a frame of a table; a Go frame has no body
 pub record IsFrame (table : Table) (f : Frame) : Type 0 where
@@ -113,15 +141,31 @@ pub record AreWholeFrames (table : Table) (bytes : List ℕ) (frames : List Fram
 
 -- the kind of a reply
 abbrev pub reply_kind : Reply → ℕ
-reply_kind (reply.Added place) = 129
-reply_kind (reply.Replaced place) = 130
-reply_kind (reply.Removed place) = 131
-reply_kind (reply.Absent place) = 132
-reply_kind (reply.Full place planes cells) = 133
-reply_kind (reply.Answer place body) = 134
-reply_kind (reply.Repacked place from before after) = 135
-reply_kind (reply.Moved place from stamp) = 136
-reply_kind (reply.Refused code) = 137
+reply_kind (reply.Added place) = added_kind
+reply_kind (reply.Replaced place) = replaced_kind
+reply_kind (reply.Removed place) = removed_kind
+reply_kind (reply.Absent place) = absent_kind
+reply_kind (reply.Full place planes cells) = full_kind
+reply_kind (reply.Answer place body) = answer_kind
+reply_kind (reply.Repacked place from before after) = repacked_kind
+reply_kind (reply.Moved place from stamp) = moved_kind
+reply_kind (reply.Refused code) = refused_kind
+
+-- the bytes of a place, and those of the bodies of replies that have one length
+abbrev pub place_bytes : ℕ
+place_bytes = 8
+
+abbrev pub full_bytes : ℕ
+full_bytes = 16
+
+abbrev pub repacked_bytes : ℕ
+repacked_bytes = 20
+
+abbrev pub moved_bytes : ℕ
+moved_bytes = 24
+
+abbrev pub refused_bytes : ℕ
+refused_bytes = 1
 
 -- the body of its frame
 abbrev pub reply_content : Reply → List ℕ
@@ -139,6 +183,10 @@ reply_content (reply.Refused code) = big_bytes 1 code
 abbrev pub reply_frame_bytes : (session number : ℕ) → Reply → List ℕ
 reply_frame_bytes session number r = spelled (reply_kind r) session number (reply_content r)
 
+-- the bytes of a reply's frame: the length word, the head and the body
+abbrev pub reply_length : Reply → ℕ
+reply_length r = 4 + head_bytes + length (reply_content r)
+
 -- The reply's frame has a length that a frame may have. The body of an answer alone could be too long.
 abbrev pub answer_fits : Reply → Type 0
 answer_fits r = head_bytes + length (reply_content r) ≤ greatest_length
@@ -153,3 +201,10 @@ NoReplyBeginsAnother =
 abbrev pub NoRequestBeginsAnother : Type 0
 NoRequestBeginsAnother =
     (a b : Frame) (rest : List ℕ) → IsFrame request_table a → IsFrame request_table b → frame_bytes a ++ rest ≡ frame_bytes b → (a ≡ b) × (rest ≡ [])
+
+-- An input has one list of whole frames, and one fault behind them or none.
+abbrev pub FramesAreOne : Type 0
+FramesAreOne =
+    (table : Table) (bytes : List ℕ) (frames others : List Frame) (fault other : Option Fault)
+    → AreWholeFrames table bytes frames fault → AreWholeFrames table bytes others other
+    → (frames ≡ others) × (fault ≡ other)

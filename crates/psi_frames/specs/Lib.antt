@@ -8,4 +8,6 @@ pub mod Feeds
 pub mod Cuts
 pub mod RoundSizes
 pub mod ReplyFrames
+pub mod ReplyTexts
 pub mod Parts
+pub mod Texts

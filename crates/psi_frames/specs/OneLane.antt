@@ -14,7 +14,7 @@ use Rattle.psi_frames.specs.declared.reply.Reply.{Reply}
 use Rattle.psi_frames.specs.declared.reply.Reply.TheVariants as reply
 use Rattle.psi_frames.specs.declared.request.Request.{Request}
 use Rattle.psi_frames.specs.Requests.{call_of, code_of, asked_ciphertexts, session_of, number_of, journal_full}
-use Rattle.psi_frames.specs.Served.{Sent, IsOneLaneText, journal_limit, requests_of, text_of}
+use Rattle.psi_frames.specs.Served.{Sent, IsOneLane, IsOneLaneText, IsServed, exchanges, journal_limit, requests_of, text_of}
 
 -- the reply that tells an answer at a place; a query's body is told with Seen, and a Repack's `from` is its place
 abbrev pub reply_telling : Answer → (place : ℕ) → (body : List ℕ) → Reply
@@ -90,3 +90,15 @@ LaneRepliesAreOfOneLane =
     (p : Parameters) (start : Version) (given : List Entry) (rounds : List (List Request))
     → start.count ≡ 0 → IsLegal start given → All HasByteCode (requests_of rounds)
     → IsOneLaneText p start given rounds (text_of (lane_replies p (replay start given) (requests_of rounds)))
+
+-- no bundle of the version was changed by an entry
+abbrev pub HasNoStamps : Version → Type 0
+HasNoStamps v = All (λ row. All (λ u. u.stamp ≡ 0) row) v.rows
+
+-- Of one lane, from a start without entries and stamps, no reply is Moved.
+abbrev pub OneLaneNeverMoves : Type 0
+OneLaneNeverMoves =
+    (p : Parameters) (start : Version) (given history : List Entry) (rounds : List (List Request)) (sents : List Sent)
+    → start.count ≡ 0 → HasNoStamps start
+    → IsServed p start given history rounds sents → IsOneLane (exchanges rounds sents)
+    → All (λ e. (place from stamp : ℕ) → e.reply ≡ reply.Moved place from stamp → ⊥) (exchanges rounds sents)

@@ -6,7 +6,10 @@ ghost use Rattle.psi_frames.specs.ReplyFrames.{Tells, is_reply_row, told_reply};
 
 use crate::body::Body;
 use crate::frame::Frame;
-use crate::reply::Reply;
+use crate::reply::{
+    ABSENT, ADDED, ANSWER, FULL, FULL_BYTES, MOVED, MOVED_BYTES, PLACE_BYTES, REFUSED,
+    REFUSED_BYTES, REMOVED, REPACKED, REPACKED_BYTES, REPLACED, Reply,
+};
 use byteorder::{BigEndian, ByteOrder};
 use std::alloc::{AllocError, Global};
 
@@ -39,12 +42,12 @@ fn is_reply_row(kind: u8, bytes: usize) -> bool
     ensures { result ≡ is_reply_row kind bytes }
 {
     match kind {
-        129..=132 => bytes == 8,
-        133 => bytes == 16,
-        134 => 8 <= bytes,
-        135 => bytes == 20,
-        136 => bytes == 24,
-        137 => bytes == 1,
+        ADDED..=ABSENT => bytes == PLACE_BYTES,
+        FULL => bytes == FULL_BYTES,
+        ANSWER => PLACE_BYTES <= bytes,
+        REPACKED => bytes == REPACKED_BYTES,
+        MOVED => bytes == MOVED_BYTES,
+        REFUSED => bytes == REFUSED_BYTES,
         _ => false,
     }
 }
@@ -56,26 +59,26 @@ fn told_reply(alloc: Global, kind: u8, body: &[u8]) -> Result<Reply, AllocError>
     ensures { IfOk result (λ reply. reply ≡ told_reply kind body.now) }
 {
     match kind {
-        129 => Ok(Reply::Added { place: place(body) }),
-        130 => Ok(Reply::Replaced { place: place(body) }),
-        131 => Ok(Reply::Removed { place: place(body) }),
-        132 => Ok(Reply::Absent { place: place(body) }),
-        133 => Ok(Reply::Full {
+        ADDED => Ok(Reply::Added { place: place(body) }),
+        REPLACED => Ok(Reply::Replaced { place: place(body) }),
+        REMOVED => Ok(Reply::Removed { place: place(body) }),
+        ABSENT => Ok(Reply::Absent { place: place(body) }),
+        FULL => Ok(Reply::Full {
             place: place(body),
             planes: BigEndian::read_u32(&body[8..]),
             cells: BigEndian::read_u32(&body[12..]),
         }),
-        134 => Ok(Reply::Answer {
+        ANSWER => Ok(Reply::Answer {
             place: place(body),
             body: Body::of(Vec::from_slice(alloc, &body[8..])?),
         }),
-        135 => Ok(Reply::Repacked {
+        REPACKED => Ok(Reply::Repacked {
             place: place(body),
             from: BigEndian::read_u64(&body[8..]),
             before: BigEndian::read_u16(&body[16..]),
             after: BigEndian::read_u16(&body[18..]),
         }),
-        136 => Ok(Reply::Moved {
+        MOVED => Ok(Reply::Moved {
             place: place(body),
             from: BigEndian::read_u64(&body[8..]),
             stamp: BigEndian::read_u64(&body[16..]),

@@ -7,15 +7,11 @@ ghost use Rattle.psi_frames.specs.declared.front.HeadFault.TheVariants.{Length};
 ghost use Rattle.psi_frames.specs.Cuts.{IsFront};
 
 use crate::frame::{GO, GREATEST_LENGTH, HEAD_BYTES, PUT};
+use crate::reply::{ADDED, REFUSED};
 use byteorder::{BigEndian, ByteOrder};
 
 /// The bytes of a frame before its body: the length word and the head.
 pub(crate) const BEFORE_BODY: usize = 4 + HEAD_BYTES;
-
-// The kinds of replies are from the first to the last.
-const FIRST_REPLY: u8 = 129;
-
-const LAST_REPLY: u8 = 137;
 
 /// A fault that a frame's first bytes decide.
 #[derive(Clone, Copy)]
@@ -91,7 +87,7 @@ fn has_kind(replies: bool, k: u8) -> bool
     ensures { result ≡ (table_of replies).has_kind k }
 {
     if replies {
-        FIRST_REPLY <= k && k <= LAST_REPLY
+        ADDED <= k && k <= REFUSED
     } else {
         PUT <= k && k <= GO
     }

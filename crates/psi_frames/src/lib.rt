@@ -15,12 +15,13 @@ mod front;
 mod head;
 mod laws;
 mod number;
+mod open_round;
 mod reply;
 mod request;
 mod round_requests;
-mod round_size;
 #[cfg(test)]
 mod tests;
+mod texts;
 mod writing;
 
 pub use crate::answer::read_answer;
@@ -29,11 +30,15 @@ pub use crate::fault::FrameFault;
 pub use crate::feed::Feed;
 pub use crate::frame::{ASK, DROP, Frame, GO, PUT, REPACK};
 pub use crate::laws::{
-    no_reply_begins_another, no_request_begins_another, one_text_is_of_one_lane,
-    pieces_do_not_matter,
+    a_text_of_replies_is_read_in_one_way, an_input_is_read_in_one_way, no_reply_begins_another,
+    no_request_begins_another, one_lane_never_moves, one_text_is_of_one_lane, pieces_do_not_matter,
+    served_rounds_have_one_history,
 };
-pub use crate::reply::Reply;
+pub use crate::open_round::OpenRound;
+pub use crate::reply::{
+    ABSENT, ADDED, ANSWER, FULL, MOVED, REFUSED, REMOVED, REPACKED, REPLACED, Reply,
+};
 pub use crate::request::{Request, read_request};
 pub use crate::round_requests::requests_of_round;
-pub use crate::round_size::RoundSize;
-pub use crate::writing::{write_answer, write_request};
+pub use crate::texts::{Address, addresses_of, text_of};
+pub use crate::writing::{append_answer, write_answer, write_request};

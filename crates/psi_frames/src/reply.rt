@@ -1,6 +1,48 @@
 //! Replies.
 use crate::body::Body;
 
+/// The kind of an Added.
+pub const ADDED: u8 = 129;
+
+/// The kind of a Replaced.
+pub const REPLACED: u8 = 130;
+
+/// The kind of a Removed.
+pub const REMOVED: u8 = 131;
+
+/// The kind of an Absent.
+pub const ABSENT: u8 = 132;
+
+/// The kind of a Full.
+pub const FULL: u8 = 133;
+
+/// The kind of an Answer.
+pub const ANSWER: u8 = 134;
+
+/// The kind of a Repacked.
+pub const REPACKED: u8 = 135;
+
+/// The kind of a Moved.
+pub const MOVED: u8 = 136;
+
+/// The kind of a Refused.
+pub const REFUSED: u8 = 137;
+
+/// The bytes of a place, which the body of each reply but Refused begins with.
+pub(crate) const PLACE_BYTES: usize = 8;
+
+/// The bytes of a Full's body.
+pub(crate) const FULL_BYTES: usize = PLACE_BYTES + 8;
+
+/// The bytes of a Repacked's body.
+pub(crate) const REPACKED_BYTES: usize = PLACE_BYTES + 12;
+
+/// The bytes of a Moved's body.
+pub(crate) const MOVED_BYTES: usize = PLACE_BYTES + 16;
+
+/// The bytes of a Refused's body.
+pub(crate) const REFUSED_BYTES: usize = 1;
+
 /// The reply to a request. A place is the number of the request's entry in the history, from 0.
 #[derive(Drop)]
 pub enum Reply {

@@ -14,7 +14,7 @@ use Rattle.psi_frames.proofs.Lanes.{paired}
 use Rattle.psi_frames.proofs.RoundRequests.{few-requests}
 use Rattle.psi_serve.specs.Runs.{frames_of}
 use Rattle.psi_serve.specs.Serving.{entries_of}
-use Rattle.psi_serve.proofs.Renumbered.{length-numbered, length-replies}
+use Rattle.psi_frames.proofs.Renumbered.{length-numbered, length-replies}
 
 -- a round has no more requests than frames
 rounds-fewer : (p : Parameters) (rounds : List (List Frame)) → length (requests_of (request_rounds p rounds)) ≤ length (frames_of rounds)

@@ -21,13 +21,12 @@ use Rattle.psi_frames.specs.Rounds.{AreRounds, IsRound, is_full, request_rounds}
 use Rattle.psi_frames.specs.Served.{IsOneLane, IsServed, Sent, exchanges, requests_of, text_of}
 use Rattle.psi_frames.proofs.Each.{each-append}
 use Rattle.psi_frames.specs.Feeds.{Feeding, HasFed, IsCut, table_of}
-use Rattle.psi_frames.specs.RoundSizes.{IsSizeOf, Sizes}
 use Rattle.psi_serve.specs.declared.stop.Stop.{Stop}
 use Rattle.psi_serve.specs.declared.stop.Stop.TheVariants.{BadInput, ReadFault, WriteFault, NoMemory}
 use Rattle.psi_outside.specs.Ends.{SinkTold}
 use Rattle.psi_serve.specs.Runs.{AnswersRound, AreFull, BeginWithRounds, HasAnswered, HasAnsweredAll, HasGivenUp, HasGoneOn, HasWaited, IsHalted, IsOpen, LastStops, Line, RoundStops, Stands, StopsAt, TakeStops, Takes, frames_of, with_frame}
 use Rattle.psi_serve.proofs.Fewer.{frames-fewer, replies-fewer}
-use Rattle.psi_serve.proofs.Joins.{round_joins, round_joins_lane}
+use Rattle.psi_frames.proofs.Joins.{round_joins, round_joins_lane}
 
 -- the requests of rounds and one round more
 rounds-more : (p : Parameters) (rounds : List (List Frame)) (round : List Frame) → request_rounds p (rounds ++ round ∷ []) ≡ request_rounds p rounds ++ requests_from p 0 round ∷ []
@@ -72,9 +71,9 @@ answered-more p line new rounds sents old before now had gone = record {
 }
 
 -- frames that wait say nothing of what was answered
-answered-waits : (p : Parameters) (line : Line) (waiting : List Frame) (size : Sizes) (rounds : List (List Frame)) (sents : List Sent) (old now : SinkTold)
-    → HasAnswered p line rounds sents old now → HasAnswered p (record line { waiting = waiting; size = size }) rounds sents old now
-answered-waits p line waiting size rounds sents old now had = record {
+answered-waits : (p : Parameters) (line : Line) (waiting : List Frame) (rounds : List (List Frame)) (sents : List Sent) (old now : SinkTold)
+    → HasAnswered p line rounds sents old now → HasAnswered p (record line { waiting = waiting }) rounds sents old now
+answered-waits p line waiting rounds sents old now had = record {
   served = had.served;
   one_lane = had.one_lane;
   codes = had.codes;
@@ -192,9 +191,8 @@ module _ (p : Parameters) (old : SinkTold) (bytes : List ℕ) (feed feed' : Feed
 
   waited : HasWaited line line' f now now' → Stands p old bytes feed' line' now'
   waited waits =
-      let mid : Line = record (with_frame line f) { size = line'.size } in
       subst (λ (l : Line). Stands p old bytes feed' l now') (sym waits.waits)
-      (subst (λ (s : SinkTold). Stands p old bytes feed' mid s) (sym waits.untouched)
+      (subst (λ (s : SinkTold). Stands p old bytes feed' (with_frame line f) s) (sym waits.untouched)
       (record {
         limit = stands.limit;
         rounds = stands.rounds;
@@ -203,8 +201,7 @@ module _ (p : Parameters) (old : SinkTold) (bytes : List ℕ) (feed feed' : Feed
         requests = requests;
         full = stands.full;
         open_round = open-more line.waiting f stands.open_round waits.not_full;
-        size = waits.size;
-        answered = answered-waits p line (line.waiting ++ f ∷ []) line'.size stands.rounds stands.sents old now stands.answered;
+        answered = answered-waits p line (line.waiting ++ f ∷ []) stands.rounds stands.sents old now stands.answered;
       }))
 
   filled : IsTrue (is_full (line.waiting ++ f ∷ [])) → HasGoneOn p (with_frame line f) line' now now' → Stands p old bytes feed' line' now'
@@ -220,8 +217,7 @@ module _ (p : Parameters) (old : SinkTold) (bytes : List ℕ) (feed feed' : Feed
         requests = requests;
         full = full-more stands.rounds round stands.full (open-round line.waiting f stands.open_round) full;
         open_round = subst IsOpen (sym gone.none_waits) open-nil;
-        size = subst (λ (w : List Frame). IsSizeOf line'.size w) (sym gone.none_waits) gone.size;
-        answered = answered-more p (with_frame line f) line' stands.rounds stands.sents old now now' (answered-waits p line round line.size stands.rounds stands.sents old now stands.answered) gone;
+        answered = answered-more p (with_frame line f) line' stands.rounds stands.sents old now now' (answered-waits p line round stands.rounds stands.sents old now stands.answered) gone;
       }
 
   pub stands-take : Takes p line line' f now now' → Stands p old bytes feed' line' now'
@@ -247,7 +243,7 @@ module _ (p : Parameters) (old : SinkTold) (bytes : List ℕ) (feed feed' : Feed
       is_round = open-round line.waiting f stands.open_round;
       sents = stands.sents;
       middle = now;
-      answered = answered-waits p line (line.waiting ++ f ∷ []) line.size stands.rounds stands.sents old now stands.answered;
+      answered = answered-waits p line (line.waiting ++ f ∷ []) stands.rounds stands.sents old now stands.answered;
       broken = stops.1;
     },
     stops.0,

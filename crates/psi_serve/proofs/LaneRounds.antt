@@ -19,8 +19,8 @@ use Rattle.psi_frames.proofs.Following.{numbered_from, seconds-numbered}
 use Rattle.psi_frames.proofs.LaneServes.{exchanges-lane, lane-legal, lane-one, lane-served, legal-join}
 use Rattle.sender_core.specs.Kept.{Contents, version_of}
 use Rattle.psi_serve.specs.Books.{IsBookOf, journal_of}
-use Rattle.psi_serve.proofs.OneRound.{fit-code}
-use Rattle.psi_serve.proofs.Renumbered.{each-seconds}
+use Rattle.psi_frames.proofs.RoundRequests.{fit-code}
+use Rattle.psi_frames.proofs.Renumbered.{each-seconds}
 
 -- the requests of one round
 requests-one : (requests : List Request) → seconds (numbered_from 0 (requests ∷ [])) ≡ requests

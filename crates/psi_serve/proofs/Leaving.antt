@@ -15,7 +15,6 @@ use Rattle.psi_frames.specs.Frames.{AreWholeFrames, Fault, IsFrame, Short, frame
 use Rattle.psi_frames.specs.Rounds.{AreRounds, IsRound, is_full, request_rounds}
 use Rattle.psi_frames.specs.Served.{IsServed, Sent, text_of}
 use Rattle.psi_frames.specs.Feeds.{EndsIn, Feeding, HasFed, IsCut, end_fault, table_of}
-use Rattle.psi_frames.specs.RoundSizes.{IsSizeOf as HasCounted}
 use Rattle.psi_bundle.specs.declared.history.Entry.{Entry}
 use Rattle.psi_bundle.specs.Versions.{empty_version}
 use Rattle.psi_frames.proofs.Fronts.{fault-stays}
@@ -23,10 +22,10 @@ use Rattle.query_pool.specs.declared.round.Served.{Served}
 use Rattle.psi_serve.specs.declared.stop.Stop.{Stop}
 use Rattle.psi_serve.specs.declared.stop.Stop.TheVariants.{BadInput, ReadFault, WriteFault, NoMemory}
 use Rattle.psi_serve.specs.Serving.{AreRepliesTo, BeginWith, Counts, FillRounds, HasServed, IsAnswered, IsBadInput, IsDone, IsFlushedTo, IsInput, IsLastOrFull, IsOutOfMemory, IsReadFault, IsWriteFault}
-use Rattle.psi_serve.specs.Runs.{AreFull, BeginWithRounds, HasAnswered, HasAnsweredAll, IsBadPiece, IsCutOff, IsHalted, IsHearing, IsNew, IsOpen, LastStops, Leaves, Line, PieceStops, frames_of}
+use Rattle.psi_serve.specs.Runs.{AreFull, BeginWithRounds, HasAnswered, HasAnsweredAll, IsBadPiece, IsCutOff, IsHalted, IsHearing, IsNew, IsOpen, LastStops, Leaves, Line, PieceStops, frames_of, status_of}
 use Rattle.psi_serve.proofs.Fewer.{frames-fewer, places-entries}
 use Rattle.psi_serve.proofs.Going.{are-rounds, frames-more, full-rounds, lane-more, open-nil, served-more}
-use Rattle.psi_serve.proofs.Joins.{none_lane, none_served}
+use Rattle.psi_frames.proofs.Joins.{none_lane, none_served}
 
 -- nothing stands at the front of no bytes
 front-nil : front_fault request_table [] ≡ None
@@ -425,7 +424,6 @@ new-hears p now feed line new fed requests = record {
     requests = requests;
     full = none-full;
     open_round = subst IsOpen (sym new.none_waits) open-nil;
-    size = subst (HasCounted line.size) (sym new.none_waits) new.size;
     answered = new-answered p line now.sink new;
   };
   room_is = omega arith;
@@ -438,8 +436,8 @@ new-hears p now feed line new fed requests = record {
 -- want of memory before anything was read
 pub none-served : (p : Parameters) (alone : Bool) (now : Ends) (served : Served) → served.status ≡ 7 → served.entries ≡ 0 → served.replies ≡ 0 → HasServed p alone now now served
 none-served p alone now served status entries replies =
-    let line : Line = record { alone = alone; journal = []; waiting = []; size = record { go = false; frames = 0; bytes = 0 }; entries = 0; replies = 0 } in
-    let new : IsNew line = record { journal = refl; none_waits = refl; size = record { go = refl; number = refl; bytes = refl }; entries = refl; replies = refl } in
+    let line : Line = record { alone = alone; journal = []; waiting = []; entries = 0; replies = 0 } in
+    let new : IsNew line = record { journal = refl; none_waits = refl; entries = refl; replies = refl } in
     record {
       statuses = inr (inr (inr (inr status)));
       done = λ e. absurd (omega (arith, e, status));
@@ -448,3 +446,50 @@ none-served p alone now served status entries replies =
       write_fault = λ e. absurd (omega (arith, e, status));
       no_memory = λ e. leaves-new p now line new served entries replies;
     }
+
+-- what a run leaves, by its status
+pub has-served : (p : Parameters) (other alone : Bool) (old new : Ends) (served : Served) (end : Result ⊤ Stop) → other ≡ alone → Leaves p other old new served.entries served.replies end → served.status ≡ status_of end
+    → HasServed p alone old new served
+has-served p other alone old new served end same leaves status =
+    by_end end (subst (λ (b : Bool). Leaves p b old new served.entries served.replies end) same leaves) status where
+      by_end : (r : Result ⊤ Stop) → Leaves p alone old new served.entries served.replies r → served.status ≡ status_of r → HasServed p alone old new served
+      by_end (Ok done) leaves status = record {
+        statuses = inl status;
+        done = λ e. leaves served refl refl;
+        bad_input = λ e. absurd (omega (arith, e, status));
+        read_fault = λ e. absurd (omega (arith, e, status));
+        write_fault = λ e. absurd (omega (arith, e, status));
+        no_memory = λ e. absurd (omega (arith, e, status));
+      }
+      by_end (Err BadInput) leaves status = record {
+        statuses = inr (inl status);
+        done = λ e. absurd (omega (arith, e, status));
+        bad_input = λ e. leaves served refl refl;
+        read_fault = λ e. absurd (omega (arith, e, status));
+        write_fault = λ e. absurd (omega (arith, e, status));
+        no_memory = λ e. absurd (omega (arith, e, status));
+      }
+      by_end (Err ReadFault) leaves status = record {
+        statuses = inr (inr (inl status));
+        done = λ e. absurd (omega (arith, e, status));
+        bad_input = λ e. absurd (omega (arith, e, status));
+        read_fault = λ e. leaves served refl refl;
+        write_fault = λ e. absurd (omega (arith, e, status));
+        no_memory = λ e. absurd (omega (arith, e, status));
+      }
+      by_end (Err WriteFault) leaves status = record {
+        statuses = inr (inr (inr (inl status)));
+        done = λ e. absurd (omega (arith, e, status));
+        bad_input = λ e. absurd (omega (arith, e, status));
+        read_fault = λ e. absurd (omega (arith, e, status));
+        write_fault = λ e. leaves served refl refl;
+        no_memory = λ e. absurd (omega (arith, e, status));
+      }
+      by_end (Err NoMemory) leaves status = record {
+        statuses = inr (inr (inr (inr status)));
+        done = λ e. absurd (omega (arith, e, status));
+        bad_input = λ e. absurd (omega (arith, e, status));
+        read_fault = λ e. absurd (omega (arith, e, status));
+        write_fault = λ e. absurd (omega (arith, e, status));
+        no_memory = λ e. leaves served refl refl;
+      }

@@ -1,8 +1,3 @@
-pub mod Renumbered
-pub mod Places
-pub mod Pairs
-pub mod Joins
-pub mod Sending
 pub mod OneRound
 pub mod Fewer
 pub mod Going

@@ -12,23 +12,15 @@ use Rattle.psi_bundle.specs.Versions.{empty_version}
 use Rattle.psi_frames.specs.declared.frame.Frame.{Frame}
 use Rattle.psi_frames.specs.declared.reply.Reply.{Reply}
 use Rattle.psi_frames.specs.declared.request.Request.{Request}
-use Rattle.psi_frames.specs.declared.request.Request.TheVariants as request
 use Rattle.psi_frames.specs.OneLane.{HasByteCode}
 use Rattle.psi_frames.specs.Requests.{number_of, requests_from, session_of}
 use Rattle.psi_frames.specs.Requests.{IsFit}
 use Rattle.psi_frames.specs.Served.{IsOneLane, IsServed, Sent, addressed, exchanges, text_of}
-use Rattle.psi_serve.specs.declared.texts.Address.{Address}
+use Rattle.psi_frames.specs.declared.texts.Address.{Address}
 use Rattle.psi_serve.specs.Runs.{AnswersRound}
-use Rattle.psi_serve.specs.Texts.{address_of, sent_to}
-use Rattle.psi_serve.proofs.Sending.{sent-addressed}
-
--- a request that fits has no code of a full journal
-pub fit-code : (p : Parameters) (r : Request) → IsFit p r → HasByteCode r
-fit-code p (request.Put session number tag label) h code e = absurd (cc)
-fit-code p (request.Drop session number tag) h code e = absurd (cc)
-fit-code p (request.Ask session number query) h code e = absurd (cc)
-fit-code p (request.Repack session number row) h code e = absurd (cc)
-fit-code p (request.Bad session number own) h code e = let same : own ≡ code = cc in omega (arith, same, h.1)
+use Rattle.psi_frames.specs.Texts.{address_of, sent_to}
+use Rattle.psi_frames.proofs.RoundRequests.{fit-code}
+use Rattle.psi_frames.proofs.Sending.{sent-addressed}
 
 pub answers-round : (p : Parameters) (alone : Bool) (before after : List Entry) (frames : List Frame) (requests : List Request) (replies : List Reply) → requests ≡ requests_from p 0 frames → All (IsFit p) requests
     → IsServed p (empty_version p) before after (requests ∷ []) (addressed requests replies) → (alone ≡ true → IsOneLane (exchanges (requests ∷ []) (addressed requests replies)))

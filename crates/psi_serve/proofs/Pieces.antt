@@ -29,7 +29,6 @@ stands-heard p old bytes more feed feed' line now stands fed table limit = recor
   requests = table ∙ stands.requests;
   full = stands.full;
   open_round = stands.open_round;
-  size = stands.size;
   answered = stands.answered;
 }
 

@@ -15,25 +15,23 @@ use Rattle.psi_frames.specs.Requests.{requests_from}
 use Rattle.psi_frames.specs.Rounds.{AreRounds, IsRound, is_full, request_rounds}
 use Rattle.psi_frames.specs.Served.{IsOneLane, IsServed, Sent, exchanges, requests_of, text_of}
 use Rattle.psi_frames.specs.Feeds.{Feeding, HasFed, IsCut}
-use Rattle.psi_frames.specs.RoundSizes.{IsSizeOf as HasCounted, Sizes}
 use Rattle.query_pool.specs.declared.round.Served.{Served}
 use Rattle.psi_serve.specs.declared.run.Run.{Run}
 use Rattle.psi_serve.specs.declared.stop.Stop.{Stop}
 use Rattle.psi_serve.specs.declared.stop.Stop.TheVariants.{BadInput, ReadFault, WriteFault, NoMemory}
 use Rattle.psi_serve.specs.Serving.{IsBadInput, IsDone, IsOutOfMemory, IsReadFault, IsWriteFault}
 
--- A run: whether it answers as one lane does, its journal, the frames of the round that has begun, their size, and what was counted.
+-- A run: whether it answers as one lane does, its journal, the frames of the round that has begun, and what was counted.
 pub record Line : Type 0 where
   pub alone : Bool
   pub journal : List Entry
   pub waiting : List Frame
-  pub size : Sizes
   pub entries : ℕ
   pub replies : ℕ
 
 abbrev pub line_of : {A : Type 0} → (A → Bool) → (A → List Entry) → Run A → Line
 line_of alone journal run =
-    record { alone = alone run.answers; journal = journal run.answers; waiting = run.waiting.items; size = run.size; entries = run.entries; replies = run.replies }
+    record { alone = alone run.answers; journal = journal run.answers; waiting = run.waiting; entries = run.entries; replies = run.replies }
 
 -- the frames of some rounds
 abbrev pub frames_of : List (List Frame) → List Frame
@@ -52,7 +50,6 @@ pub record HasGoneOn (p : Parameters) (old new : Line) (before now : SinkTold) :
   pub answers : AnswersRound p old.alone old.journal new.journal old.waiting next
   pub alone : new.alone ≡ old.alone
   pub none_waits : new.waiting ≡ []
-  pub size : HasCounted new.size []
   pub written : Appends before.written now.written (text_of next)
   pub flushed : IsAllFlushed now.written now.flushed
   pub no_write_failed : now.faults ≡ before.faults
@@ -93,8 +90,7 @@ with_frame line f = record line { waiting = line.waiting ++ f ∷ [] }
 
 -- the frame waits, and the round is not full
 pub record HasWaited (old new : Line) (f : Frame) (before now : SinkTold) : Type 0 where
-  pub waits : new ≡ record (with_frame old f) { size = new.size }
-  pub size : HasCounted new.size (old.waiting ++ f ∷ [])
+  pub waits : new ≡ with_frame old f
   pub not_full : IsFalse (is_full (old.waiting ++ f ∷ []))
   pub untouched : now ≡ before
 
@@ -138,7 +134,6 @@ pub record Stands (p : Parameters) (old : SinkTold) (bytes : List ℕ) (feed : F
   pub requests : feed.replies ≡ false
   pub full : AreFull rounds
   pub open_round : IsOpen line.waiting
-  pub size : HasCounted line.size line.waiting
   pub answered : HasAnswered p line rounds sents old now
 
 -- it does so behind some bytes
@@ -228,7 +223,6 @@ PieceStops p old bytes piece room feed line now NoMemory = IsHalted p old (bytes
 pub record IsNew (line : Line) : Type 0 where
   pub journal : line.journal ≡ []
   pub none_waits : line.waiting ≡ []
-  pub size : HasCounted line.size []
   pub entries : line.entries ≡ 0
   pub replies : line.replies ≡ 0
 

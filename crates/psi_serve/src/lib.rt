@@ -12,6 +12,5 @@ mod run;
 mod stop;
 #[cfg(test)]
 mod tests;
-mod texts;
 
 pub use crate::calls::{serve, serve_alone};

@@ -8,17 +8,16 @@ ghost use Rattle.psi_frames.specs.Rounds.{IsRound};
 ghost use Rattle.psi_frames.specs.Feeds.{Feeding, HasFed, end_fault};
 ghost use Rattle.psi_outside.specs.Ends.{SinkTold, ends};
 ghost use Rattle.psi_serve.specs.declared.stop.Stop.TheVariants.{BadInput};
-ghost use Rattle.psi_frames.specs.RoundSizes.{IsSizeOf};
 ghost use Rattle.psi_serve.specs.Runs.{HasAnsweredAll, HasGoneOn, IsBadPiece, IsNew, IsOpen, IsStanding, IsStandingAt, LastStops, Leaves, PieceStops, RoundStops, TakeStops, Takes, Stands, StopsAt, line_of};
 
 use crate::answers::Answers;
 use crate::stop::Stop;
-use crate::texts::{addresses_of, text_of};
 use noise_ledger::Params;
-use psi_frames::{Feed, Frame, FrameFault, RoundSize, requests_of_round};
+use psi_frames::{
+    Feed, Frame, FrameFault, OpenRound, addresses_of, requests_of_round, text_of,
+};
 use psi_outside::{Sink, Source, write_all};
 use std::alloc::{AllocError, Global};
-use std::mem;
 
 // The bytes that one read has room for.
 const BUFFER: usize = 65536;
@@ -26,13 +25,12 @@ const BUFFER: usize = 65536;
 // The bytes of an input that are looked at.
 const MOST_BYTES: usize = 1 << 40;
 
-/// A run: what answers its rounds, the frames of the round that has begun, their size, and the entries and the replies of
-/// the rounds that were written.
+/// A run: what answers its rounds, the frames of the round that has begun, and the entries and the replies of the rounds
+/// that were written.
 #[derive(Drop)]
 pub struct Run<A> {
     pub answers: A,
-    pub waiting: Vec<Frame>,
-    pub size: RoundSize,
+    pub waiting: OpenRound,
     pub entries: u64,
     pub replies: u64,
 }
@@ -46,8 +44,7 @@ impl<A: Answers> Run<A> {
     {
         Run {
             answers,
-            waiting: Vec::new(alloc),
-            size: RoundSize::new(),
+            waiting: OpenRound::new(alloc),
             entries: 0,
             replies: 0,
         }
@@ -62,17 +59,15 @@ impl<A: Answers> Run<A> {
     ) -> Result<(), Stop>
         requires passed { ArePassed (parameters_of params.now) }
         requires under { A.is_under self.old.answers (parameters_of params.now) }
-        requires each { All (IsFrame request_table) self.old.waiting.items }
-        requires round { IsRound self.old.waiting.items }
-        requires room { self.old.replies + length self.old.waiting.items < 2 ^ 63 }
+        requires each { All (IsFrame request_table) self.old.waiting }
+        requires round { IsRound self.old.waiting }
+        requires room { self.old.replies + length self.old.waiting < 2 ^ 63 }
         ensures gone { OnOk result (HasGoneOn (parameters_of params.now) (line_of A.alone A.journal self.old) (line_of A.alone A.journal self.new) (K.told sink.old) (K.told sink.new)) }
         ensures stops { IfErr result (RoundStops (parameters_of params.now) (line_of A.alone A.journal self.old) (line_of A.alone A.journal self.new) (K.told sink.old) (K.told sink.new)) }
         ensures under { A.is_under self.new.answers (parameters_of params.now) }
         ensures alone { A.alone self.new.answers ≡ A.alone self.old.answers }
     {
-        let frames = mem::replace(&mut self.waiting, Vec::new(alloc));
-        self.size = RoundSize::new();
-        let requests = requests_of_round(alloc, params, frames)?;
+        let requests = requests_of_round(alloc, params, 0, self.waiting.take(alloc))?;
         let addresses = addresses_of(alloc, &requests)?;
         let replies = self.answers.answer(alloc, params, requests)?;
         let text = text_of(alloc, &addresses, &replies)?;
@@ -96,18 +91,16 @@ impl<A: Answers> Run<A> {
     ) -> Result<(), Stop>
         requires passed { ArePassed (parameters_of params.now) }
         requires under { A.is_under self.old.answers (parameters_of params.now) }
-        requires each { All (IsFrame request_table) (self.old.waiting.items ++ frame ∷ []) }
-        requires open_round { IsOpen self.old.waiting.items }
-        requires size { IsSizeOf self.old.size self.old.waiting.items }
-        requires room { self.old.replies + length self.old.waiting.items < 2 ^ 62 }
+        requires each { All (IsFrame request_table) (self.old.waiting ++ frame ∷ []) }
+        requires open_round { IsOpen self.old.waiting }
+        requires room { self.old.replies + length self.old.waiting < 2 ^ 62 }
         ensures takes { OnOk result (Takes (parameters_of params.now) (line_of A.alone A.journal self.old) (line_of A.alone A.journal self.new) frame (K.told sink.old) (K.told sink.new)) }
         ensures stops { IfErr result (TakeStops (parameters_of params.now) (line_of A.alone A.journal self.old) (line_of A.alone A.journal self.new) frame (K.told sink.old) (K.told sink.new)) }
         ensures under { A.is_under self.new.answers (parameters_of params.now) }
         ensures alone { A.alone self.new.answers ≡ A.alone self.old.answers }
     {
-        self.size.push(&frame);
-        push_frame(&mut self.waiting, frame)?;
-        if self.size.is_full() {
+        self.waiting.push(frame)?;
+        if self.waiting.is_full() {
             return self.serve_round(alloc, params, sink);
         }
         Ok(())
@@ -258,13 +251,4 @@ fn hear(alloc: Global, feed: &mut Feed, piece: &[u8], room: usize) -> Result<boo
             _ => Ok(false),
         },
     }
-}
-
-// Appends a frame.
-fn push_frame(frames: &mut Vec<Frame>, frame: Frame) -> Result<(), AllocError>
-    ensures pushed { OnOk result (frames.new.items ≡ frames.old.items ++ frame ∷ []) }
-    ensures kept { OnErr result (frames.new.items ≡ frames.old.items) }
-{
-    frames.push(frame)?;
-    Ok(())
 }

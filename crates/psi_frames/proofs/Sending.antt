@@ -8,8 +8,8 @@ use Rattle.psi_frames.specs.declared.request.Request.{Request}
 use Rattle.psi_frames.specs.Frames.{reply_frame_bytes}
 use Rattle.psi_frames.specs.Requests.{number_of, session_of}
 use Rattle.psi_frames.specs.Served.{Sent, addressed, text_of}
-use Rattle.psi_serve.specs.declared.texts.Address.{Address}
-use Rattle.psi_serve.specs.Texts.{address_of, sent_to}
+use Rattle.psi_frames.specs.declared.texts.Address.{Address}
+use Rattle.psi_frames.specs.Texts.{address_of, sent_to}
 
 -- what is written, and the text of the replies that are left
 abbrev pub left_text : List Address → List Reply → ℕ → List ℕ

@@ -9,15 +9,12 @@ use Rattle.std.proofs.lemmas.List.FromFn.{length-range_with_len}
 use Rattle.std.proofs.lemmas.List.Elements.{All-from_recursion, recursion_from_All}
 use Rattle.std.proofs.lemmas.List.Sorted.{All-permutation, IsPermutation-sym, length_permutation}
 use Rattle.std.proofs.lemmas.Option.{slice_get_within}
-use Rattle.psi_bundle.specs.declared.history.Answer.{Answer}
 use Rattle.psi_bundle.specs.declared.history.Call.{Call}
 use Rattle.psi_bundle.specs.declared.history.Entry.{Entry}
-use Rattle.psi_frames.specs.declared.reply.Reply.{Reply}
-use Rattle.psi_frames.specs.declared.reply.Reply.TheVariants as reply
 use Rattle.psi_frames.specs.declared.request.Request.{Request}
 use Rattle.psi_frames.specs.declared.request.Request.TheVariants as request
 use Rattle.psi_frames.specs.Requests.{call_of, code_of}
-use Rattle.psi_frames.specs.Served.{Exchange, IsRecorded, answer_of, all_places, from_of, from_or_zero, place_of, places_in, places_of_round, uncoded_of_round}
+use Rattle.psi_frames.specs.Served.{Exchange, IsRecorded, all_places, from_or_zero, place_of, places_in, places_of_round, uncoded_of_round}
 use Rattle.psi_frames.proofs.Following.{before}
 use Rattle.psi_frames.proofs.Placed.{IsCodedRight, counts_one, none_from, placed_uncoded, places-few, tells_answer}
 
@@ -26,7 +23,7 @@ abbrev pub IsBelow : ℕ → Exchange → Type 0
 IsBelow high e = (x : ℕ) → place_of e.reply ≡ Some x → x < high
 
 -- a request without a code makes a call
-makes_call : (r : Request) (from : ℕ) → code_of r ≡ None → (c : Call) × (call_of r from ≡ Some c)
+pub makes_call : (r : Request) (from : ℕ) → code_of r ≡ None → (c : Call) × (call_of r from ≡ Some c)
 makes_call (request.Put session number tag label) from e = (_, refl)
 makes_call (request.Drop session number tag) from e = (_, refl)
 makes_call (request.Ask session number query) from e = (_, refl)

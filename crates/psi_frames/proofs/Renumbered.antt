@@ -1,11 +1,11 @@
 -- The exchanges of rounds and one round more: those of the rounds, and then those of the new one, with its number.
-use Rattle.std.specs.Prelude.{◌≡◌, ℕ, ◌+◌, ◌<◌, Bool, true, false, nat_eq, List, [], ◌∷◌, ◌++◌, length, map, filter, None, if◌then◌else◌}
+use Rattle.std.specs.Prelude.{◌≡◌, ℕ, ◌+◌, ◌<◌, Bool, false, nat_eq, List, [], ◌∷◌, ◌++◌, length, map}
 use Rattle.std.specs.List.{AllByRecursion, zip}
-use Rattle.std.proofs.Common.{refl, sym, ap, ◌∙◌, subst, arith, append_assoc, append-nil, length-append}
+use Rattle.std.proofs.Common.{refl, sym, ap, ◌∙◌, subst, arith, append_assoc, append-nil}
 use Rattle.std.proofs.lemmas.List.{length-map, map-append}
-use Rattle.std.proofs.lemmas.List.Elements.{filter_map-append, filter-append}
+use Rattle.std.proofs.lemmas.List.Concat.{flat_map-append}
 use Rattle.psi_frames.specs.declared.request.Request.{Request}
-use Rattle.psi_frames.specs.Served.{Exchange, Sent, HaveOneReplyEach, exchanges, numbered, requests_of, place_of, places_in, all_places, is_uncoded_in, uncoded_of_round, address_of_reply, address_of_request}
+use Rattle.psi_frames.specs.Served.{Exchange, Sent, HaveOneReplyEach, exchanges, numbered, requests_of, places_in, uncoded_of_round, address_of_reply, address_of_request}
 use Rattle.psi_frames.proofs.Each.{each-append}
 use Rattle.psi_frames.proofs.Following.{each-of_round, numbered_from, of_round, seconds-numbered}
 use Rattle.psi_frames.proofs.Lanes.{paired, seconds}
@@ -25,6 +25,9 @@ numbered-one_more j (r ∷ rs) round =
     ap (λ (ns : List (ℕ × Request)). of_round j r ++ ns) (numbered-one_more (j + 1) rs round)
     ∙ sym (append_assoc (of_round j r) (numbered_from (j + 1) rs) (of_round (j + 1 + length rs) round))
     ∙ ap (λ (n : ℕ). (of_round j r ++ numbered_from (j + 1) rs) ++ of_round n round) (omega arith)
+
+numbered-last : (rounds : List (List Request)) (round : List Request) → numbered (rounds ++ round ∷ []) ≡ numbered rounds ++ of_round (length rounds) round
+numbered-last rounds round = numbered-one_more 0 rounds round ∙ ap (λ (n : ℕ). numbered rounds ++ of_round n round) (omega arith)
 
 zip-append : {A B : Type 0} (xs ys : List A) (us vs : List B) → length xs ≡ length us → zip (xs ++ ys) (us ++ vs) ≡ zip xs us ++ zip ys vs
 zip-append [] ys [] vs e = refl
@@ -54,10 +57,31 @@ pub exchanges-one_more : (rounds : List (List Request)) (round : List Request) (
 exchanges-one_more rounds round sents next each =
     let k = length rounds in
     let size = length-numbered rounds ∙ sym (length-replies rounds sents each) in
-    ap (λ (ns : List (ℕ × Request)). paired ns (sents ++ next)) (numbered-one_more 0 rounds round ∙ ap (λ (n : ℕ). numbered rounds ++ of_round n round) (omega arith))
+    ap (λ (ns : List (ℕ × Request)). paired ns (sents ++ next)) (numbered-last rounds round)
     ∙ paired-append (numbered rounds) (of_round k round) sents next size
     ∙ ap (λ (es : List Exchange). paired (numbered rounds) sents ++ es)
     (paired-moved k round next ∙ ap (λ (ns : List (ℕ × Request)). moved k (paired ns next)) (sym (append-nil (of_round 0 round))))
+
+-- the same where the last round grows
+pub exchanges-part : (rounds : List (List Request)) (part next : List Request) (sents more : List Sent) → HaveOneReplyEach (rounds ++ part ∷ []) sents
+    → exchanges (rounds ++ (part ++ next) ∷ []) (sents ++ more) ≡ exchanges (rounds ++ part ∷ []) sents ++ moved (length rounds) (exchanges (next ∷ []) more)
+exchanges-part rounds part next sents more each =
+    let k = length rounds in
+    let size = length-numbered (rounds ++ part ∷ []) ∙ sym (length-replies (rounds ++ part ∷ []) sents each) in
+    let all : numbered (rounds ++ (part ++ next) ∷ []) ≡ numbered (rounds ++ part ∷ []) ++ of_round k next =
+    numbered-last rounds (part ++ next) ∙ ap (λ (ns : List (ℕ × Request)). numbered rounds ++ ns) (map-append (λ (r : Request). (k, r)) part next)
+    ∙ sym (append_assoc (numbered rounds) (of_round k part) (of_round k next)) ∙ ap (λ (ns : List (ℕ × Request)). ns ++ of_round k next) (sym (numbered-last rounds part)) in
+    ap (λ (ns : List (ℕ × Request)). paired ns (sents ++ more)) all
+    ∙ paired-append (numbered (rounds ++ part ∷ [])) (of_round k next) sents more size
+    ∙ ap (λ (es : List Exchange). paired (numbered (rounds ++ part ∷ [])) sents ++ es)
+    (paired-moved k next more ∙ ap (λ (ns : List (ℕ × Request)). moved k (paired ns more)) (sym (append-nil (of_round 0 next))))
+
+pub requests-part : (rounds : List (List Request)) (part next : List Request) → requests_of (rounds ++ (part ++ next) ∷ []) ≡ requests_of (rounds ++ part ∷ []) ++ requests_of (next ∷ [])
+requests-part rounds part next =
+    flat_map-append (λ (r : List Request). r) rounds ((part ++ next) ∷ [])
+    ∙ ap (λ (rs : List Request). requests_of rounds ++ rs) (append-nil (part ++ next) ∙ (λ i. sym (append-nil part) i ++ sym (append-nil next) i))
+    ∙ sym (append_assoc (requests_of rounds) (requests_of (part ∷ [])) (requests_of (next ∷ [])))
+    ∙ ap (λ (rs : List Request). rs ++ requests_of (next ∷ [])) (sym (flat_map-append (λ (r : List Request). r) rounds (part ∷ [])))
 
 -- what holds of each numbered request's round, or of each request, holds of the exchanges
 each-paired : (P : ℕ → Request → Type 0) (ns : List (ℕ × Request)) (sents : List Sent) → AllByRecursion (λ n. P n.0 n.1) ns → AllByRecursion (λ e. P e.round e.request) (paired ns sents)

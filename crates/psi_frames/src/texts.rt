@@ -1,21 +1,25 @@
-//! The text of a round's replies.
+//! The text of replies.
 ghost use Rattle.std.specs.Prelude.{◌≡◌, length, map, IfOk};
 ghost use Rattle.std.specs.List.{All};
 ghost use Rattle.psi_frames.specs.Frames.{answer_fits};
 ghost use Rattle.psi_frames.specs.Served.{text_of};
-ghost use Rattle.psi_serve.specs.Texts.{address_of, sent_to};
+ghost use Rattle.psi_frames.specs.Texts.{address_of, room_of, sent_to};
 
-use psi_frames::{Reply, Request, write_answer};
+use crate::reply::Reply;
+use crate::request::Request;
+use crate::writing::{append_answer, reply_length};
 use std::alloc::{AllocError, Global};
 
 /// The session and the number that a request and its reply have in common.
 #[derive(Clone, Copy)]
 pub struct Address {
+    /// The session of both.
     pub session: u16,
+    /// The number of both.
     pub number: u32,
 }
 
-/// The addresses of some requests, in their order.
+/// The addresses of some requests, in their order. The only error is memory that runs out.
 pub fn addresses_of(alloc: Global, requests: &[Request]) -> Result<Vec<Address>, AllocError>
     ensures { IfOk result (λ addresses. addresses.items ≡ map address_of requests.now) }
 {
@@ -58,7 +62,8 @@ fn address_of(request: &Request) -> Address
     }
 }
 
-/// The text of replies with these addresses, one after another. The only error is memory that runs out.
+/// The text of replies with these addresses, one after another: as many addresses as replies, each of which fits in a frame.
+/// Its room is taken once, before the first reply is written. The only error is memory that runs out.
 pub fn text_of(
     alloc: Global,
     addresses: &[Address],
@@ -68,11 +73,22 @@ pub fn text_of(
     requires one_each { length replies.now ≡ length addresses.now }
     ensures { IfOk result (λ text. text.items ≡ text_of (sent_to addresses.now replies.now)) }
 {
-    let mut text = Vec::new(alloc);
+    let mut text = Vec::with_capacity(alloc, room_of(replies))?;
     for (i, reply) in replies.iter().enumerate() {
         let address = &addresses[i];
-        let frame = write_answer(alloc, address.session, address.number, reply)?;
-        text.extend_from_slice(&frame)?;
+        append_answer(&mut text, address.session, address.number, reply)?;
     }
     Ok(text)
+}
+
+// The bytes of the replies' frames, as far as they can be counted.
+fn room_of(replies: &[Reply]) -> usize
+    requires fits { All answer_fits replies.now }
+    ensures { result ≡ room_of replies.now }
+{
+    let mut room: usize = 0;
+    for reply in replies {
+        room = room.saturating_add(reply_length(reply));
+    }
+    room
 }

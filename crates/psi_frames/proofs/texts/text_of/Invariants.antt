@@ -1,8 +1,8 @@
 use Rattle.std.proofs.Common.{◌≡◌, ◌++◌}
 use Rattle.psi_frames.specs.Served.{text_of}
-use Rattle.psi_serve.specs.Texts.{sent_to}
-use Rattle.psi_serve.proofs.Sending.{left_text}
-use Rattle.psi_serve.proofs.texts.text_of.Given as goal
+use Rattle.psi_frames.specs.Texts.{sent_to}
+use Rattle.psi_frames.proofs.Sending.{left_text}
+use Rattle.psi_frames.proofs.texts.text_of.Given as goal
 
 -- what is written and the text of those that are left are the whole text
 abbrev pub invariant-loop-i : goal.invariant-loop-i
