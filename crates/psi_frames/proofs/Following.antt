@@ -11,8 +11,9 @@ use Rattle.std.proofs.lemmas.List.FromFn.{length-range_with_len}
 use Rattle.psi_residue.specs.Parameters.{Parameters}
 use Rattle.psi_bundle.specs.declared.history.Call.{Call}
 use Rattle.psi_bundle.specs.Versions.{Version}
+use Rattle.psi_bundle.specs.Histories.{most_entries}
 use Rattle.psi_frames.specs.declared.request.Request.{Request}
-use Rattle.psi_frames.specs.Served.{Exchange, requests_of, place_of, places_in, places_of_round, uncoded_of_round, journal_limit}
+use Rattle.psi_frames.specs.Served.{Exchange, requests_of, place_of, places_in, places_of_round, uncoded_of_round}
 use Rattle.psi_frames.specs.OneLane.{call_on, reply_by, lane_next, lane_history}
 use Rattle.psi_frames.proofs.Each.{each-weaker, each-both, each-append}
 use Rattle.psi_frames.proofs.Placed.{places-append, uncoded-append}
@@ -55,17 +56,17 @@ before k es = places_in (λ round. nat_lt round k) es
 -- the places of a round follow on behind so many entries and those of earlier rounds
 abbrev pub FollowsFrom : ℕ → ℕ → List Exchange → Type 0
 FollowsFrom base k es =
-    places_of_round k es ≡ range_with_len (base + length (before k es)) (min (uncoded_of_round k es) (journal_limit - (base + length (before k es))))
+    places_of_round k es ≡ range_with_len (base + length (before k es)) (min (uncoded_of_round k es) (most_entries - (base + length (before k es))))
 
 -- the first round, and then others
 follow-here : (base k m u : ℕ) (xs ys : List Exchange) → places_of_round k xs ≡ range_with_len base m → places_of_round k ys ≡ [] → before k xs ≡ [] → before k ys ≡ []
-    → uncoded_of_round k xs ≡ u → uncoded_of_round k ys ≡ 0 → m ≡ min u (journal_limit - base) → FollowsFrom base k (xs ++ ys)
+    → uncoded_of_round k xs ≡ u → uncoded_of_round k ys ≡ 0 → m ≡ min u (most_entries - base) → FollowsFrom base k (xs ++ ys)
 follow-here base k m u xs ys here none early late mine theirs number =
     let places = places-append (nat_eq k) xs ys ∙ (λ i. here i ++ none i) ∙ append-nil (range_with_len base m) in
     let first : length (before k (xs ++ ys)) ≡ 0 = ap length (places-append (λ round. nat_lt round k) xs ys ∙ (λ i. early i ++ late i)) in
     let all : uncoded_of_round k (xs ++ ys) ≡ u = uncoded-append k xs ys ∙ omega (arith, mine, theirs) in
     let start : base ≡ base + length (before k (xs ++ ys)) = omega (arith, first) in
-    let count : m ≡ min (uncoded_of_round k (xs ++ ys)) (journal_limit - (base + length (before k (xs ++ ys)))) = omega (arith, first, all, number) in
+    let count : m ≡ min (uncoded_of_round k (xs ++ ys)) (most_entries - (base + length (before k (xs ++ ys)))) = omega (arith, first, all, number) in
     places ∙ (λ i. range_with_len (start i) (count i))
 
 -- a later round
@@ -77,7 +78,7 @@ follow-later base next k m xs ys none early mine moved follows =
     ap length (places-append (λ round. nat_lt round k) xs ys) ∙ length-append (before k xs) (before k ys) ∙ omega (arith, early) in
     let all : uncoded_of_round k (xs ++ ys) ≡ uncoded_of_round k ys = uncoded-append k xs ys ∙ omega (arith, mine) in
     let start : next + length (before k ys) ≡ base + length (before k (xs ++ ys)) = omega (arith, first, moved) in
-    places ∙ follows ∙ (λ i. range_with_len (start i) (min (sym all i) (journal_limit - start i)))
+    places ∙ follows ∙ (λ i. range_with_len (start i) (min (sym all i) (most_entries - start i)))
 
 -- the two parts of rounds from j on
 module _ (p : Parameters) (v : Version) (j : ℕ) (round : List Request) (rounds : List (List Request)) where

@@ -14,13 +14,13 @@ use Rattle.std.proofs.lemmas.Option.{slice_get-get_or}
 use Rattle.psi_residue.specs.Parameters.{Parameters}
 use Rattle.psi_bundle.specs.declared.history.Entry.{Entry}
 use Rattle.psi_bundle.specs.Versions.{Version}
-use Rattle.psi_bundle.specs.Histories.{IsLegal, replay}
+use Rattle.psi_bundle.specs.Histories.{IsLegal, replay, most_entries}
 use Rattle.query_codec.specs.Replies.{reply_body}
 use Rattle.psi_frames.specs.declared.reply.Reply.TheVariants as reply
 use Rattle.psi_frames.specs.declared.request.Request.{Request}
 use Rattle.psi_frames.specs.OneLane.{HasByteCode}
 use Rattle.psi_frames.specs.Requests.{code_of, is_repack, journal_full, asked_ciphertexts}
-use Rattle.psi_frames.specs.Served.{AreServed, Exchange, FollowOn, HasPlaceOrIsFull, HaveOneReplyEach, IsEvaluated, IsFromWithin, IsOneLane, IsRecorded, IsServed, PlacesRise, SameSession, SeesOwn, Sent, StaysFull, address_of_reply, address_of_request, all_places, exchanges, first_place, from_of, journal_limit, place_of, places_in, places_of_round, requests_of, uncoded_of_round}
+use Rattle.psi_frames.specs.Served.{AreServed, Exchange, FollowOn, HasPlaceOrIsFull, HaveOneReplyEach, IsEvaluated, IsFromWithin, IsOneLane, IsRecorded, IsServed, PlacesRise, SameSession, SeesOwn, Sent, StaysFull, address_of_reply, address_of_request, all_places, exchanges, first_place, from_of, place_of, places_in, places_of_round, requests_of, uncoded_of_round}
 use Rattle.psi_frames.proofs.Each.{each-weaker}
 use Rattle.psi_frames.proofs.FirstRounds.{before-more}
 use Rattle.psi_frames.proofs.Following.{before}
@@ -66,9 +66,9 @@ uncoded-moved k (e ∷ es) h = by_code (is_none (code_of e.request)) refl (uncod
       rw (own, here, code) rest
 
 -- numbers that follow on, by other names
-same-follow : (xs ys : List ℕ) (a b u v : ℕ) → ys ≡ xs → b ≡ a → v ≡ u → IsPermutation xs (range_with_len a (min u (journal_limit - a))) → IsPermutation ys (range_with_len b (min v (journal_limit - b)))
+same-follow : (xs ys : List ℕ) (a b u v : ℕ) → ys ≡ xs → b ≡ a → v ≡ u → IsPermutation xs (range_with_len a (min u (most_entries - a))) → IsPermutation ys (range_with_len b (min v (most_entries - b)))
 same-follow xs ys a b u v e f g h =
-    subst (λ (t : List ℕ × ℕ × ℕ). IsPermutation t.0 (range_with_len t.1 (min t.2 (journal_limit - t.1)))) (λ i. (sym e i, sym f i, sym g i)) h
+    subst (λ (t : List ℕ × ℕ × ℕ). IsPermutation t.0 (range_with_len t.1 (min t.2 (most_entries - t.1)))) (λ i. (sym e i, sym f i, sym g i)) h
 
 -- two ranges, one behind the other
 range-parts : (low m n : ℕ) → range_with_len low m ++ range_with_len (low + m) n ≡ range_with_len low (m + n)
@@ -119,7 +119,7 @@ module _ (p : Parameters) (start : Version) (given middle history : List Entry) 
   from-new =
       All-from_recursion (IsFrom (length middle)) fs
       (places-each (λ x. length middle ≤ x) (nat_eq 0) fs kept
-      (permuted-from (first_place middle 0 fs) (min (uncoded_of_round 0 fs) (journal_limit - first_place middle 0 fs)) (length middle) (places_of_round 0 fs) (new.placed.places 0 (omega arith)) (omega arith)))
+      (permuted-from (first_place middle 0 fs) (min (uncoded_of_round 0 fs) (most_entries - first_place middle 0 fs)) (length middle) (places_of_round 0 fs) (new.placed.places 0 (omega arith)) (omega arith)))
 
   -- and so is each `from` of the new
   since-new : All (λ f. (from : ℕ) → from_of f.reply ≡ Some from → length middle ≤ from) fs
@@ -129,12 +129,12 @@ module _ (p : Parameters) (start : Version) (given middle history : List Entry) 
       omega (arith, within.0)
 
   -- a full journal stays full
-  full-new : All (λ f. journal_limit ≤ length middle → place_of f.reply ≡ None) fs
+  full-new : All (λ f. most_entries ≤ length middle → place_of f.reply ≡ None) fs
   full-new i d lt full =
-      let size = permuted-length (first_place middle 0 fs) (min (uncoded_of_round 0 fs) (journal_limit - first_place middle 0 fs)) (places_of_round 0 fs) (new.placed.places 0 (omega arith)) in
+      let size = permuted-length (first_place middle 0 fs) (min (uncoded_of_round 0 fs) (most_entries - first_place middle 0 fs)) (places_of_round 0 fs) (new.placed.places 0 (omega arith)) in
       none_placed (nat_eq 0) fs kept (nil_from_length (places_of_round 0 fs) (omega (arith, size, full))) i d lt
 
-  full-old : All (λ e. e.reply ≡ reply.Refused journal_full → journal_limit ≤ length middle) es
+  full-old : All (λ e. e.reply ≡ reply.Refused journal_full → most_entries ≤ length middle) es
   full-old i d lt refused =
       let e = slice_index_or es i d in
       let code = full-uncoded e (code_of e.request) refl (All-from_recursion (λ f. HasByteCode f.request) es bytes i d lt) (old.coded i d lt) refused in
@@ -250,9 +250,9 @@ module _ (p : Parameters) (start : Version) (given middle history : List Entry) 
         placed = record {
           places = follow;
           others = All-append HasPlaceOrIsFull es gs old.placed.others (All-map HasPlaceOrIsFull (in_round k) fs new.placed.others);
-          stay = pairs-append (λ a b. SameSession a b → StaysFull a b) (λ e. e.reply ≡ reply.Refused journal_full → journal_limit ≤ length middle)
-              (λ f. journal_limit ≤ length middle → place_of f.reply ≡ None) (λ a b x y same refused. y (x refused)) es gs old.placed.stay
-              (pairs-map (λ a b. SameSession a b → StaysFull a b) (in_round k) fs new.placed.stay) full-old (All-map (λ f. journal_limit ≤ length middle → place_of f.reply ≡ None) (in_round k) fs full-new);
+          stay = pairs-append (λ a b. SameSession a b → StaysFull a b) (λ e. e.reply ≡ reply.Refused journal_full → most_entries ≤ length middle)
+              (λ f. most_entries ≤ length middle → place_of f.reply ≡ None) (λ a b x y same refused. y (x refused)) es gs old.placed.stay
+              (pairs-map (λ a b. SameSession a b → StaysFull a b) (in_round k) fs new.placed.stay) full-old (All-map (λ f. most_entries ≤ length middle → place_of f.reply ≡ None) (in_round k) fs full-new);
         };
         rising = pairs-append (λ a b. SameSession a b → PlacesRise a b) (IsBelow (length middle)) (IsFrom (length middle))
             (λ a b x y same m n at on. let low = x m at in let high = y n on in omega (arith, low, high)) es gs old.rising
@@ -279,9 +279,9 @@ module _ (p : Parameters) (start : Version) (given middle history : List Entry) 
       record {
         rising = pairs-append PlacesRise (IsBelow (length middle)) (IsFrom (length middle)) (λ a b x y m n at on. let low = x m at in let high = y n on in omega (arith, low, high)) es gs one.rising
             (pairs-map PlacesRise (in_round k) fs next.rising) below-old (All-map (IsFrom (length middle)) (in_round k) fs from-new);
-        full_stays = pairs-append StaysFull (λ e. e.reply ≡ reply.Refused journal_full → journal_limit ≤ length middle) (λ f. journal_limit ≤ length middle → place_of f.reply ≡ None)
+        full_stays = pairs-append StaysFull (λ e. e.reply ≡ reply.Refused journal_full → most_entries ≤ length middle) (λ f. most_entries ≤ length middle → place_of f.reply ≡ None)
             (λ a b x y refused. y (x refused)) es gs one.full_stays (pairs-map StaysFull (in_round k) fs next.full_stays) full-old
-            (All-map (λ f. journal_limit ≤ length middle → place_of f.reply ≡ None) (in_round k) fs full-new);
+            (All-map (λ f. most_entries ≤ length middle → place_of f.reply ≡ None) (in_round k) fs full-new);
         own_from = All-append (λ e. (from : ℕ) → from_of e.reply ≡ Some from → place_of e.reply ≡ Some from) es gs one.own_from
             (All-map (λ e. (from : ℕ) → from_of e.reply ≡ Some from → place_of e.reply ≡ Some from) (in_round k) fs next.own_from);
       }

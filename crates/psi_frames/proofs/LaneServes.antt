@@ -18,7 +18,7 @@ use Rattle.psi_bundle.specs.declared.history.Answer.{Answer}
 use Rattle.psi_bundle.specs.declared.history.Entry.{Entry}
 use Rattle.psi_bundle.specs.Versions.{Version}
 use Rattle.psi_bundle.specs.Steps.{step}
-use Rattle.psi_bundle.specs.Histories.{IsLegal, after, replay, version_at}
+use Rattle.psi_bundle.specs.Histories.{IsLegal, after, replay, version_at, most_entries}
 use Rattle.psi_bundle.proofs.Steps.{count-step}
 use Rattle.query_codec.specs.Replies.{reply_body}
 use Rattle.psi_frames.specs.declared.reply.Reply.{Reply}
@@ -26,7 +26,7 @@ use Rattle.psi_frames.specs.declared.reply.Reply.TheVariants as reply
 use Rattle.psi_frames.specs.declared.request.Request.{Request}
 use Rattle.psi_frames.specs.declared.request.Request.TheVariants as request
 use Rattle.psi_frames.specs.Requests.{call_of, code_of, is_repack, journal_full, asked_ciphertexts}
-use Rattle.psi_frames.specs.Served.{Exchange, Sent, exchanges, requests_of, text_of, place_of, from_of, from_or_zero, places_of_round, uncoded_of_round, journal_limit, PlacesRise, StaysFull, IsRecorded, HasPlaceOrIsFull, FollowOn, IsFromWithin, IsEvaluated, AreServed, IsOneLane, IsOneLaneText}
+use Rattle.psi_frames.specs.Served.{Exchange, Sent, exchanges, requests_of, text_of, place_of, from_of, from_or_zero, places_of_round, uncoded_of_round, PlacesRise, StaysFull, IsRecorded, HasPlaceOrIsFull, FollowOn, IsFromWithin, IsEvaluated, AreServed, IsOneLane, IsOneLaneText}
 use Rattle.psi_frames.specs.OneLane.{HasByteCode, call_on, entries_by, lane_history, lane_next, lane_replies, lane_reply, reply_by, reply_telling, version_by}
 use Rattle.psi_frames.proofs.Each.{each-vacuous, each-weaker}
 use Rattle.psi_frames.proofs.Placed.{IsCodedRight, some_place}
@@ -59,16 +59,16 @@ lane-placed p v [] = tt
 lane-placed p v (n ∷ ns) = (placed-turn p v n (turned v n.1), lane-placed p (lane_next v n.1) ns)
 
 -- behind a full journal nothing has a place
-full-turn : (p : Parameters) (v : Version) (r : Request) → Turned v r → journal_limit ≤ v.count → (place_of (lane_reply p v r) ≡ None) × (lane_next v r ≡ v)
+full-turn : (p : Parameters) (v : Version) (r : Request) → Turned v r → most_entries ≤ v.count → (place_of (lane_reply p v r) ≡ None) × (lane_next v r ≡ v)
 full-turn p v r (Turned.Coded own coded none) full = rw none (refl, refl)
 full-turn p v r (Turned.Full uncoded_here over none) full = rw none (refl, refl)
 full-turn p v r (Turned.Makes c uncoded_here room calls some) full = absurd (omega (arith, room, full))
 
-lane-full : (p : Parameters) (v : Version) (ns : List (ℕ × Request)) → journal_limit ≤ v.count → AllByRecursion (λ e. place_of e.reply ≡ None) (lane p v ns)
+lane-full : (p : Parameters) (v : Version) (ns : List (ℕ × Request)) → most_entries ≤ v.count → AllByRecursion (λ e. place_of e.reply ≡ None) (lane p v ns)
 lane-full p v [] full = tt
 lane-full p v (n ∷ ns) full =
     let here = full-turn p v n.1 (turned v n.1) full in
-    (here.0, lane-full p (lane_next v n.1) ns (subst (λ (w : Version). journal_limit ≤ w.count) (sym here.1) full))
+    (here.0, lane-full p (lane_next v n.1) ns (subst (λ (w : Version). most_entries ≤ w.count) (sym here.1) full))
 
 stays-turn : (p : Parameters) (v : Version) (n : ℕ × Request) (ns : List (ℕ × Request)) → HasByteCode n.1 → Turned v n.1
     → AllByRecursion (λ e. lane_reply p v n.1 ≡ reply.Refused journal_full → place_of e.reply ≡ None) (lane p (lane_next v n.1) ns)
@@ -79,7 +79,7 @@ stays-turn p v n ns byte (Turned.Coded own coded none) =
 stays-turn p v n ns byte (Turned.Full uncoded_here full none) =
     let same = (full-turn p v n.1 (Turned.Full uncoded_here full none) full).1 in
     each-weaker (λ e. place_of e.reply ≡ None) (λ e. lane_reply p v n.1 ≡ reply.Refused journal_full → place_of e.reply ≡ None) (λ e h _. h) (lane p (lane_next v n.1) ns)
-    (lane-full p (lane_next v n.1) ns (subst (λ (w : Version). journal_limit ≤ w.count) (sym same) full))
+    (lane-full p (lane_next v n.1) ns (subst (λ (w : Version). most_entries ≤ w.count) (sym same) full))
 stays-turn p v n ns byte (Turned.Makes c uncoded_here room calls some) =
     each-vacuous (λ e. place_of e.reply ≡ None) (lane p (lane_next v n.1) ns) (rw some (no_refusal (step v c).answer v.count journal_full (reply_body p v.rows (asked_ciphertexts n.1))))
 
@@ -289,7 +289,7 @@ module _ (p : Parameters) (start : Version) (given : List Entry) (rounds : List 
   follow-on k lt =
       let follows = lane-follows p begun 0 rounds k (omega arith) (omega arith) in
       let same : begun.count ≡ length given = sym led.number in
-      subst (λ (c : ℕ). places_of_round k lane_of ≡ range_with_len (c + length (before k lane_of)) (min (uncoded_of_round k lane_of) (journal_limit - (c + length (before k lane_of)))) → FollowOn given lane_of k)
+      subst (λ (c : ℕ). places_of_round k lane_of ≡ range_with_len (c + length (before k lane_of)) (min (uncoded_of_round k lane_of) (most_entries - (c + length (before k lane_of)))) → FollowOn given lane_of k)
       (sym same) (λ e. subst (λ (xs : List ℕ). IsPermutation (places_of_round k lane_of) xs) e (IsPermutation-refl (places_of_round k lane_of))) follows
 
   within : All (IsFromWithin given lane_of) lane_of

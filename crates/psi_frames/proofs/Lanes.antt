@@ -7,9 +7,10 @@ use Rattle.psi_bundle.specs.declared.history.Call.{Call}
 use Rattle.psi_bundle.specs.Versions.{Version}
 use Rattle.psi_bundle.specs.Steps.{step}
 use Rattle.psi_bundle.proofs.Steps.{count-step}
+use Rattle.psi_bundle.specs.Histories.{most_entries}
 use Rattle.psi_frames.specs.declared.request.Request.{Request}
 use Rattle.psi_frames.specs.Requests.{code_of}
-use Rattle.psi_frames.specs.Served.{Exchange, Sent, place_of, places_in, uncoded_of_round, address_of_reply, address_of_request, journal_limit}
+use Rattle.psi_frames.specs.Served.{Exchange, Sent, place_of, places_in, uncoded_of_round, address_of_reply, address_of_request}
 use Rattle.psi_frames.specs.OneLane.{call_on, reply_by, version_by, entries_by, lane_reply, lane_next, lane_replies, lane_history}
 use Rattle.psi_frames.proofs.Turns.{Turned, turned, place-reply, count-behind}
 
@@ -82,13 +83,13 @@ uncoded rs = length (filter (λ r. is_none (code_of r)) rs)
 
 -- there are as many entries as requests without a code, or as the journal has room for
 length-history_by : (v : Version) (r : Request) (rs : List Request) → Turned v r
-    → length (lane_history (lane_next v r) rs) ≡ min (uncoded rs) (journal_limit - (lane_next v r).count)
-    → length (entries_by v (call_on v r) ++ lane_history (lane_next v r) rs) ≡ min (uncoded (r ∷ rs)) (journal_limit - v.count)
+    → length (lane_history (lane_next v r) rs) ≡ min (uncoded rs) (most_entries - (lane_next v r).count)
+    → length (entries_by v (call_on v r) ++ lane_history (lane_next v r) rs) ≡ min (uncoded (r ∷ rs)) (most_entries - v.count)
 length-history_by v r rs (Turned.Coded code coded none) = rw (none, coded) (λ rest. rest)
 length-history_by v r rs (Turned.Full uncoded_here full none) = rw (none, uncoded_here) (λ rest. omega (arith, rest, full))
 length-history_by v r rs (Turned.Makes c uncoded_here room calls some) = rw (some, uncoded_here) (λ rest. let more = count-step v c in omega (arith, rest, room, more))
 
-pub length-history : (v : Version) (rs : List Request) → length (lane_history v rs) ≡ min (uncoded rs) (journal_limit - v.count)
+pub length-history : (v : Version) (rs : List Request) → length (lane_history v rs) ≡ min (uncoded rs) (most_entries - v.count)
 unfolding lane_history
 length-history v [] = omega arith
 length-history v (r ∷ rs) = length-history_by v r rs (turned v r) (length-history (lane_next v r) rs)

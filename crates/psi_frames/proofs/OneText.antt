@@ -9,9 +9,10 @@ use Rattle.std.proofs.lemmas.List.FromFn.{get_or-range_with_len, length-range_wi
 use Rattle.psi_residue.specs.Parameters.{Parameters}
 use Rattle.psi_bundle.specs.declared.history.Entry.{Entry}
 use Rattle.psi_bundle.specs.Versions.{Version}
+use Rattle.psi_bundle.specs.Histories.{most_entries}
 use Rattle.psi_frames.specs.declared.request.Request.{Request}
 use Rattle.psi_frames.specs.Requests.{code_of}
-use Rattle.psi_frames.specs.Served.{Exchange, place_of, places_in, places_of_round, all_places, uncoded_of_round, first_place, journal_limit, AreServed, IsOneLane, PlacesRise}
+use Rattle.psi_frames.specs.Served.{Exchange, place_of, places_in, places_of_round, all_places, uncoded_of_round, first_place, AreServed, IsOneLane, PlacesRise}
 use Rattle.psi_frames.proofs.Each.{each-weaker}
 use Rattle.psi_frames.proofs.Following.{before}
 use Rattle.psi_frames.proofs.Placed.{IsCodedRight, places-append, places-few, places-none, uncoded-append}
@@ -142,26 +143,26 @@ module _ (p : Parameters) (start : Version) (given history : List Entry) (rounds
     (served : AreServed p start given history rounds whole) (one : IsOneLane whole) where
   -- the places of a round are a range
   round-range : (k : ℕ) → k < length rounds
-      → let n = min (uncoded_of_round k whole) (journal_limit - first_place given k whole) in
+      → let n = min (uncoded_of_round k whole) (most_entries - first_place given k whole) in
       (length (places_of_round k whole) ≡ n) × (places_of_round k whole ≡ range_with_len (first_place given k whole) n)
   round-range k lt =
-      rising-range (first_place given k whole) (min (uncoded_of_round k whole) (journal_limit - first_place given k whole)) (places_of_round k whole)
+      rising-range (first_place given k whole) (min (uncoded_of_round k whole) (most_entries - first_place given k whole)) (places_of_round k whole)
       (places-rise (nat_eq k) 0 whole one.rising (from-zero whole)) (served.placed.places k lt)
 
   -- an exchange with a place has the count of entries before it, and the journal had room
   pub place-is : (xs ys : List Exchange) (e : Exchange) (x : ℕ) → IsSplit whole xs ys e → e.round < length rounds → place_of e.reply ≡ Some x
-      → (x ≡ length given + length (all_places xs)) × (x < journal_limit)
+      → (x ≡ length given + length (all_places xs)) × (x < most_entries)
   place-is xs ys e x split lt place =
       let range = round-range e.round lt in
       let first = first_place given e.round whole in
-      let there = at-range first (min (uncoded_of_round e.round whole) (journal_limit - first)) x (places_of_round e.round xs) (places_of_round e.round ys)
+      let there = at-range first (min (uncoded_of_round e.round whole) (most_entries - first)) x (places_of_round e.round xs) (places_of_round e.round ys)
       (ap (λ (zs : List ℕ). places_of_round e.round xs ++ zs) (sym (own_place e ys x place)) ∙ sym (of-split whole xs ys e split) ∙ range.1) in
       let counted = count-split given whole xs ys e split in
       (omega (arith, there.0, counted), omega (arith, there.0, there.1))
 
   -- one without a code that has none found the journal full
   pub full-is : (xs ys : List Exchange) (e : Exchange) → IsSplit whole xs ys e → e.round < length rounds → code_of e.request ≡ None → place_of e.reply ≡ None
-      → AllByRecursion (λ f. place_of f.reply ≡ None) ys → AllByRecursion IsCodedRight xs → journal_limit ≤ length given + length (all_places xs)
+      → AllByRecursion (λ f. place_of f.reply ≡ None) ys → AllByRecursion IsCodedRight xs → most_entries ≤ length given + length (all_places xs)
   full-is xs ys e split lt code none rest right =
       let range = round-range e.round lt in
       let first = first_place given e.round whole in

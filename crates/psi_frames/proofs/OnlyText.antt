@@ -13,14 +13,14 @@ use Rattle.psi_bundle.specs.declared.history.Call.{Call}
 use Rattle.psi_bundle.specs.declared.history.Entry.{Entry}
 use Rattle.psi_bundle.specs.Versions.{Version}
 use Rattle.psi_bundle.specs.Steps.{step}
-use Rattle.psi_bundle.specs.Histories.{IsLegal, after, replay, version_at}
+use Rattle.psi_bundle.specs.Histories.{IsLegal, after, replay, version_at, most_entries}
 use Rattle.query_codec.specs.Replies.{reply_body}
 use Rattle.psi_frames.specs.declared.reply.Reply.{Reply}
 use Rattle.psi_frames.specs.declared.reply.Reply.TheVariants as reply
 use Rattle.psi_frames.specs.declared.request.Request.{Request}
 use Rattle.psi_frames.specs.declared.request.Request.TheVariants as request
 use Rattle.psi_frames.specs.Requests.{call_of, code_of, is_repack, journal_full, asked_ciphertexts}
-use Rattle.psi_frames.specs.Served.{Exchange, Sent, exchanges, requests_of, text_of, place_of, from_of, from_or_zero, answer_of, body_of, all_places, address_of_reply, address_of_request, journal_limit, AreServed, HasPlaceOrIsFull, IsEvaluated, IsOneLane, IsRecorded, StaysFull}
+use Rattle.psi_frames.specs.Served.{Exchange, Sent, exchanges, requests_of, text_of, place_of, from_of, from_or_zero, answer_of, body_of, all_places, address_of_reply, address_of_request, AreServed, HasPlaceOrIsFull, IsEvaluated, IsOneLane, IsRecorded, StaysFull}
 use Rattle.psi_frames.specs.OneLane.{HasByteCode, LaneRepliesAreOfOneLane, OneTextIsOfOneLane, call_on, entries_by, lane_next, lane_replies, lane_reply, reply_by, reply_telling}
 use Rattle.psi_frames.proofs.Each.{each-append, each-weaker}
 use Rattle.psi_frames.proofs.Placed.{IsCodedRight, none_from, places-append, tells_answer}
@@ -145,7 +145,7 @@ module _ (p : Parameters) (start : Version) (given history : List Entry) (rounds
         }
 
     -- refused for a full journal
-    full-turn : code_of e.request ≡ None → e.reply ≡ reply.Refused journal_full → journal_limit ≤ v.count
+    full-turn : code_of e.request ≡ None → e.reply ≡ reply.Refused journal_full → most_entries ≤ v.count
     full-turn code refused =
         let stays = pairs_split StaysFull xs e ys (subst (AllPairs StaysFull) split.all one.full_stays) in
         let none : place_of e.reply ≡ None = ap place_of refused in

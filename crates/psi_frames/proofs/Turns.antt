@@ -10,11 +10,12 @@ use Rattle.psi_bundle.specs.declared.history.Answer.TheVariants as answer
 use Rattle.psi_bundle.specs.Versions.{Version, row_at, greatest_stamp, packed_row, members_of_row}
 use Rattle.psi_bundle.specs.Steps.{Step, step, repack, unchanged}
 use Rattle.psi_bundle.proofs.Steps.{count-step}
+use Rattle.psi_bundle.specs.Histories.{most_entries}
 use Rattle.psi_frames.specs.declared.reply.Reply.TheVariants as reply
 use Rattle.psi_frames.specs.declared.request.Request.{Request}
 use Rattle.psi_frames.specs.declared.request.Request.TheVariants as request
 use Rattle.psi_frames.specs.Requests.{call_of, code_of}
-use Rattle.psi_frames.specs.Served.{place_of, from_of, body_of, answer_of, journal_limit}
+use Rattle.psi_frames.specs.Served.{place_of, from_of, body_of, answer_of}
 use Rattle.psi_frames.specs.OneLane.{reply_telling, call_on, version_by, entries_by}
 
 -- the reply that tells an answer at a place: its place, its answer, its `from` and its body
@@ -94,18 +95,18 @@ coded_or_calls (request.Bad session number code) from = inl (code, refl, refl)
 -- what a request is to a version: it has a code, or it finds the journal full, or it makes a call
 pub data Turned (v : Version) (r : Request) : Type 0 where
   Coded : (code : ℕ) → code_of r ≡ Some code → call_on v r ≡ None → Turned v r
-  Full : code_of r ≡ None → journal_limit ≤ v.count → call_on v r ≡ None → Turned v r
-  Makes : (c : Call) → code_of r ≡ None → v.count < journal_limit → call_of r v.count ≡ Some c → call_on v r ≡ Some c → Turned v r
+  Full : code_of r ≡ None → most_entries ≤ v.count → call_on v r ≡ None → Turned v r
+  Makes : (c : Call) → code_of r ≡ None → v.count < most_entries → call_of r v.count ≡ Some c → call_on v r ≡ Some c → Turned v r
 
-turned_by : (v : Version) (r : Request) (b : Bool) → nat_lt v.count journal_limit ≡ b → CodedOrCalls r v.count → Turned v r
+turned_by : (v : Version) (r : Request) (b : Bool) → nat_lt v.count most_entries ≡ b → CodedOrCalls r v.count → Turned v r
 unfolding call_on
 turned_by v r true test (inl coded) = Coded coded.0 coded.1 (let none = coded.2 in rw test none)
-turned_by v r true test (inr calls) = Makes calls.0 calls.1 (ltb-true v.count journal_limit test) calls.2 (let some = calls.2 in rw test some)
+turned_by v r true test (inr calls) = Makes calls.0 calls.1 (ltb-true v.count most_entries test) calls.2 (let some = calls.2 in rw test some)
 turned_by v r false test (inl coded) = Coded coded.0 coded.1 (rw test refl)
 turned_by v r false test (inr calls) = Full calls.1 (grind (arith, nat_tests, test)) (rw test refl)
 
 pub turned : (v : Version) (r : Request) → Turned v r
-turned v r = turned_by v r (nat_lt v.count journal_limit) refl (coded_or_calls r v.count)
+turned v r = turned_by v r (nat_lt v.count most_entries) refl (coded_or_calls r v.count)
 
 -- the count of entries behind a call, and behind none
 pub count-behind : (v : Version) (o : Option Call) → (version_by v o).count ≡ v.count + length (entries_by v o)

@@ -8,7 +8,7 @@ use Rattle.psi_bundle.specs.declared.history.Call.{Call}
 use Rattle.psi_bundle.specs.declared.history.Entry.{Entry}
 use Rattle.psi_bundle.specs.Versions.{Version}
 use Rattle.psi_bundle.specs.Steps.{step}
-use Rattle.psi_bundle.specs.Histories.{IsLegal, replay}
+use Rattle.psi_bundle.specs.Histories.{IsLegal, replay, most_entries}
 use Rattle.query_codec.specs.Replies.{reply_body}
 use Rattle.psi_frames.specs.declared.reply.Reply.{Reply}
 use Rattle.psi_frames.specs.declared.reply.Reply.TheVariants as reply
@@ -29,7 +29,7 @@ reply_telling (answer.Moved stamp) place body = reply.Moved place place stamp
 
 -- the call that a request makes on a version, a Repack from the version's own count; none where the request has a code, or the journal is full
 unfoldable pub call_on : Version → Request → Option Call
-call_on v r = if nat_lt v.count journal_limit then call_of r v.count else None
+call_on v r = if nat_lt v.count most_entries then call_of r v.count else None
 
 -- the code of a refusal: the request's own, or else that of a full journal
 abbrev pub refusal_code : Option ℕ → ℕ

@@ -9,7 +9,7 @@ use Rattle.psi_bundle.specs.declared.history.Answer.{Answer}
 use Rattle.psi_bundle.specs.declared.history.Answer.TheVariants as answer
 use Rattle.psi_bundle.specs.declared.history.Entry.{Entry}
 use Rattle.psi_bundle.specs.Versions.{Version}
-use Rattle.psi_bundle.specs.Histories.{IsLegal, version_at}
+use Rattle.psi_bundle.specs.Histories.{IsLegal, version_at, most_entries}
 use Rattle.query_codec.specs.Replies.{reply_body}
 use Rattle.psi_frames.specs.declared.reply.Reply.{Reply}
 use Rattle.psi_frames.specs.declared.reply.Reply.TheVariants as reply
@@ -134,10 +134,6 @@ is_uncoded_in k e = if nat_eq k e.round then is_none (code_of e.request) else fa
 abbrev pub uncoded_of_round : ℕ → List Exchange → ℕ
 uncoded_of_round k es = length (filter (is_uncoded_in k) es)
 
--- the entries that a journal may have
-abbrev pub journal_limit : ℕ
-journal_limit = 2 ^ 20
-
 -- the `from` of a reply to a Repack, 0 for any other
 abbrev pub from_or_zero : Reply → ℕ
 from_or_zero (reply.Repacked place from before after) = from
@@ -173,7 +169,7 @@ HasPlaceOrIsFull e = code_of e.request ≡ None → IsSome (place_of e.reply) �
 -- the places of a round follow on behind those of earlier rounds, each once, as many as the journal has room for
 abbrev pub FollowOn : List Entry → List Exchange → ℕ → Type 0
 FollowOn given es k =
-    IsPermutation (places_of_round k es) (range_with_len (first_place given k es) (min (uncoded_of_round k es) (journal_limit - first_place given k es)))
+    IsPermutation (places_of_round k es) (range_with_len (first_place given k es) (min (uncoded_of_round k es) (most_entries - first_place given k es)))
 
 -- 3. In each round the places follow on; the requests that have none met a full journal, and in a session no place comes behind one of these.
 pub record PlacesFollowOn (given : List Entry) (rounds : List (List Request)) (es : List Exchange) : Type 0 where

@@ -127,12 +127,12 @@ label-found p seed placed_tags rows x u passed many lt bins alone within has =
 
     value : (unit part : ℕ) → unit < p.units → part < 5
         → opened_value (reply_by_rows p seed placed_tags rows) x.position u (unit + 1) part
-        ≡ horner (interpolated (label_points p (bin_in rows x.position u) part unit)) (slot_value x.tag part) (suc p.capacity) 0 % plain_modulus
+        ≡ horner (interpolated (label_points (bin_in rows x.position u) part unit)) (slot_value x.tag part) (suc p.capacity) 0 % plain_modulus
     value unit part below few =
         let next : unit + 1 ≡ suc unit = omega arith in
         part-opened p seed placed_tags rows x.position u (unit + 1) part passed many lt within (omega arith) few
         ∙ ap (λ (plane : ℕ). horner (part_coefficient p bin plane part) (bin_value placed_tags x.position part) (suc p.capacity) 0 % plain_modulus) next
-        ∙ ap (λ (v : ℕ). horner (interpolated (label_points p bin part unit)) v (suc p.capacity) 0 % plain_modulus) (alone part)
+        ∙ ap (λ (v : ℕ). horner (interpolated (label_points bin part unit)) v (suc p.capacity) 0 % plain_modulus) (alone part)
 
     here : (unit part : ℕ) → unit < p.units → part < 5
         → bytes_high_first 2 (opened_value (reply_by_rows p seed placed_tags rows) x.position u (unit + 1) part % 65536)

@@ -24,7 +24,7 @@ use Rattle.psi_bundle.proofs.BinChanges.{roots-distinct}
 use Rattle.psi_receiver.proofs.Bins.{IsBin, HasRoot, roots-small}
 
 -- the first numbers of the points are the roots
-points-places : (p : Parameters) (bin : List Member) (part unit : ℕ) → map (λ q. q.0) (label_points p bin part unit) ≡ roots_of bin part
+points-places : (p : Parameters) (bin : List Member) (part unit : ℕ) → map (λ q. q.0) (label_points bin part unit) ≡ roots_of bin part
 points-places p [] part unit = λ i. []
 points-places p (m ∷ bin) part unit = ap (λ (xs : List ℕ). slot_value m.tag part ∷ xs) (points-places p bin part unit)
 
@@ -33,7 +33,7 @@ label_value-small label n bytes = big_from-lt 0 2 (drop (2 * n) label) (bytes_fr
 
 -- the polynomial of a label unit takes a member's number at its root
 pub label-taken : (p : Parameters) (bin : List Member) (part unit v : ℕ) → IsBin p bin → part < 5 → (r : HasRoot bin v part)
-    → horner (interpolated (label_points p bin part unit)) v (suc p.capacity) 0 % plain_modulus ≡ label_value r.member.label (5 * unit + part)
+    → horner (interpolated (label_points bin part unit)) v (suc p.capacity) 0 % plain_modulus ≡ label_value r.member.label (5 * unit + part)
 label-taken p bin part unit v h lt r =
     ap (λ (x : ℕ). x % plain_modulus)
     (horner-any_length (interpolated points) v (suc p.capacity) (length points) (λ i low. interpolated-past points i (omega (arith, fits, size))) (λ i low. interpolated-past points i low))
@@ -43,7 +43,7 @@ label-taken p bin part unit v h lt r =
     ∙ value
   where
     points : List (ℕ × ℕ)
-    points = label_points p bin part unit
+    points = label_points bin part unit
 
     places : map (λ q. q.0) points ≡ roots_of bin part
     places = points-places p bin part unit
@@ -77,7 +77,7 @@ label-taken p bin part unit v h lt r =
 
 -- its two bytes are those of the label
 pub part-bytes : (p : Parameters) (bin : List Member) (part unit v value : ℕ) → IsBin p bin → part < 5 → unit < p.units → (r : HasRoot bin v part)
-    → value ≡ horner (interpolated (label_points p bin part unit)) v (suc p.capacity) 0 % plain_modulus
+    → value ≡ horner (interpolated (label_points bin part unit)) v (suc p.capacity) 0 % plain_modulus
     → bytes_high_first 2 (value % 65536) ≡ take 2 (drop (2 * (5 * unit + part)) r.member.label)
 part-bytes p bin part unit v value h lt few r e =
     ap (λ (x : ℕ). bytes_high_first 2 (x % 65536)) (e ∙ label-taken p bin part unit v h lt r)

@@ -10,9 +10,8 @@ use Rattle.psi_frames.specs.declared.request.Request.{Request}
 use Rattle.psi_frames.specs.Requests.{call_of, code_of, is_repack, asked_ciphertexts}
 use Rattle.psi_frames.specs.Served.{body_of, from_of, from_or_zero, place_of}
 use Rattle.live_sender.specs.declared.origin.Origin.{Origin}
-use Rattle.live_sender.specs.Turns.{Known}
+use Rattle.live_sender.specs.Turns.{Known, IsSeated}
 use Rattle.query_pool.specs.Exchanges.{HasGoneOn, IsBodyAt, IsOne, IsToldFrom, Tells, lane_exchange}
-use Rattle.query_pool.specs.Lanes.{IsSeated}
 use Rattle.query_pool.proofs.OneByOne.{one}
 use Rattle.query_pool.proofs.Telling.{gone-from}
 

@@ -1,6 +1,6 @@
 -- Beginnings of histories, and what stays as a history grows.
 use Rattle.std.specs.Prelude.{◌≡◌, ℕ, zero, suc, ◌<◌, ◌≤◌, List, [], ◌∷◌, ◌++◌, length, Some, slice_get}
-use Rattle.std.proofs.Common.{refl, sym, ap, ◌∙◌, arith, append_assoc, append-nil, length-append}
+use Rattle.std.proofs.Common.{refl, sym, ap, ◌∙◌, arith}
 use Rattle.psi_residue.specs.Parameters.{Parameters}
 use Rattle.psi_turnstile.specs.Counting.{IsPrefix}
 use Rattle.psi_bundle.specs.declared.history.Entry.{Entry}
@@ -10,15 +10,6 @@ use Rattle.query_codec.specs.Replies.{reply_body}
 use Rattle.psi_frames.specs.Requests.{asked_ciphertexts}
 use Rattle.psi_frames.specs.Served.{Exchange, IsEvaluated, IsRecorded, place_of}
 use Rattle.sender_core.proofs.StampHistories.{version-more}
-
-pub prefix-self : (xs : List Entry) → IsPrefix xs xs
-prefix-self xs = ([], sym (append-nil xs))
-
-pub prefix-then : (xs ys zs : List Entry) → IsPrefix xs ys → IsPrefix ys zs → IsPrefix xs zs
-prefix-then xs ys zs p q = (p.0 ++ q.0, q.1 ∙ ap (λ (l : List Entry). l ++ q.0) p.1 ∙ append_assoc xs p.0 q.0)
-
-pub prefix-short : (xs ys : List Entry) → IsPrefix xs ys → length xs ≤ length ys
-prefix-short xs ys p = let all = ap length p.1 in omega (arith, all, length-append xs p.0)
 
 -- an entry within a history stays where it is
 get-more : (xs rest : List Entry) (k : ℕ) → k < length xs → slice_get (xs ++ rest) k ≡ slice_get xs k

@@ -9,21 +9,22 @@ use Rattle.psi_bundle.specs.declared.history.Answer.{Answer}
 use Rattle.psi_bundle.specs.declared.history.Call.{Call}
 use Rattle.psi_bundle.specs.Versions.{Version}
 use Rattle.query_codec.specs.Replies.{reply_body}
+use Rattle.psi_bundle.specs.Histories.{most_entries}
 use Rattle.psi_frames.specs.declared.reply.Reply.{Reply}
 use Rattle.psi_frames.specs.declared.reply.Reply.TheVariants as reply
 use Rattle.psi_frames.specs.declared.request.Request.{Request}
 use Rattle.psi_frames.specs.declared.request.Request.TheVariants as request
 use Rattle.psi_frames.specs.OneLane.{call_on, entries_by, reply_by, reply_telling, refusal_code, version_by}
 use Rattle.psi_frames.specs.Requests.{call_of, code_of, asked_ciphertexts}
-use Rattle.psi_frames.specs.Served.{journal_limit, from_of}
+use Rattle.psi_frames.specs.Served.{from_of}
 use Rattle.sender_core.specs.Kept.{Contents, version_of}
 use Rattle.query_pool.specs.Alone.{IsAnsweredAlone, IsCalled, IsEntered, IsFull}
 use Rattle.query_pool.specs.Rounds.{IsNoMoved}
 
 -- with room in the journal a request makes its call
-call-made : (v : Version) (r : Request) (c : Call) → v.count < journal_limit → call_of r v.count ≡ Some c → call_on v r ≡ Some c
+call-made : (v : Version) (r : Request) (c : Call) → v.count < most_entries → call_of r v.count ≡ Some c → call_on v r ≡ Some c
 unfolding call_on
-call-made v r c room is = let test : nat_lt v.count journal_limit ≡ true = lt-ltb v.count journal_limit room in rw test is
+call-made v r c room is = let test : nat_lt v.count most_entries ≡ true = lt-ltb v.count most_entries room in rw test is
 
 -- a request whose call is entered
 entered : (p : Parameters) (old new : Contents CacheOf) (r : Request) (c : Call) (body : List ℕ) (told : Reply) → call_of r (length old.journal) ≡ Some c
@@ -57,14 +58,14 @@ uncalled p old new r told none same journal parameters start is =
     }
 
 -- a full journal takes no call
-full-none : (v : Version) (r : Request) → journal_limit ≤ v.count → call_on v r ≡ None
+full-none : (v : Version) (r : Request) → most_entries ≤ v.count → call_on v r ≡ None
 unfolding call_on
-full-none v r full = let test : nat_lt v.count journal_limit ≡ false = le-ltb v.count journal_limit full in rw test refl
+full-none v r full = let test : nat_lt v.count most_entries ≡ false = le-ltb v.count most_entries full in rw test refl
 
 -- a request with a code makes none
 coded-none : (v : Version) (session number code : ℕ) → call_on v (request.Bad session number code) ≡ None
 unfolding call_on
-coded-none v session number code = either (nat_lt v.count journal_limit) None where
+coded-none v session number code = either (nat_lt v.count most_entries) None where
   either : (b : Bool) (o : Option Call) → (if b then o else o) ≡ o
   either true o = refl
   either false o = refl

@@ -14,10 +14,11 @@ use Rattle.std.proofs.lemmas.List.Sorted.{length_permutation}
 use Rattle.psi_bundle.specs.declared.history.Entry.{Entry}
 use Rattle.psi_turnstile.specs.Counting.{below, times}
 use Rattle.psi_turnstile.proofs.Sums.{below_no, below_some, below_yes, same_no, same_yes}
+use Rattle.psi_bundle.specs.Histories.{most_entries}
 use Rattle.psi_frames.specs.declared.reply.Reply.TheVariants as reply
 use Rattle.psi_frames.specs.declared.request.Request.{Request}
 use Rattle.psi_frames.specs.Requests.{is_repack, journal_full}
-use Rattle.psi_frames.specs.Served.{AreServed, Exchange, FollowOn, HasPlaceOrIsFull, IsEvaluated, IsFromWithin, IsOneLane, IsRecorded, PlacesRise, SameSession, SeesOwn, StaysFull, all_places, first_place, from_of, journal_limit, place_of, places_in, places_of_round, uncoded_of_round}
+use Rattle.psi_frames.specs.Served.{AreServed, Exchange, FollowOn, HasPlaceOrIsFull, IsEvaluated, IsFromWithin, IsOneLane, IsRecorded, PlacesRise, SameSession, SeesOwn, StaysFull, all_places, first_place, from_of, place_of, places_in, places_of_round, uncoded_of_round}
 use Rattle.psi_frames.proofs.Each.{each-weaker}
 use Rattle.psi_frames.proofs.Placed.{IsCodedRight, from_placed, places-every, places-none}
 use Rattle.live_sender.specs.declared.origin.Origin.{Origin}
@@ -69,14 +70,14 @@ module _ (z : Origin) (given history : List Entry) (workers : ℕ) (requests : L
   first_is = ap (λ (xs : List ℕ). length given + length xs) none_before ∙ omega arith
 
   -- there are as many places as the journal has room for
-  count_is : made ≡ min (uncoded_of_round 0 es) (journal_limit - first_place given 0 es)
+  count_is : made ≡ min (uncoded_of_round 0 es) (most_entries - first_place given 0 es)
   count_is =
       let few = places-few es first (recursion_from_All IsCodedRight es (of_all IsCodedRight (λ fs part. part.coded))) in
       let most = joined.history_is.few in
-      by_cause few most (enough-or_full (journal_limit ≤ length history) es first (recursion_from_All HasPlaceOrIsFull es (of_all HasPlaceOrIsFull (λ fs part. part.others)))
-      (recursion_from_All (λ e. e.reply ≡ reply.Refused journal_full → journal_limit ≤ length history) es (of_all (λ e. e.reply ≡ reply.Refused journal_full → journal_limit ≤ length history) (λ fs part. part.full)))) where
-        by_cause : length (all_places es) ≤ uncoded_of_round 0 es → length history ≤ journal_limit → (uncoded_of_round 0 es ≤ length (all_places es)) ⊎ (journal_limit ≤ length history)
-            → made ≡ min (uncoded_of_round 0 es) (journal_limit - first_place given 0 es)
+      by_cause few most (enough-or_full (most_entries ≤ length history) es first (recursion_from_All HasPlaceOrIsFull es (of_all HasPlaceOrIsFull (λ fs part. part.others)))
+      (recursion_from_All (λ e. e.reply ≡ reply.Refused journal_full → most_entries ≤ length history) es (of_all (λ e. e.reply ≡ reply.Refused journal_full → most_entries ≤ length history) (λ fs part. part.full)))) where
+        by_cause : length (all_places es) ≤ uncoded_of_round 0 es → length history ≤ most_entries → (uncoded_of_round 0 es ≤ length (all_places es)) ⊎ (most_entries ≤ length history)
+            → made ≡ min (uncoded_of_round 0 es) (most_entries - first_place given 0 es)
         by_cause few most (inl enough) = omega (arith, few, most, enough, number, size, first_is)
         by_cause few most (inr full) = omega (arith, few, most, full, number, size, first_is)
 

@@ -14,13 +14,13 @@ use Rattle.psi_frames.specs.Served.{Exchange, all_places}
 use Rattle.psi_frames.proofs.Each.{each-weaker}
 use Rattle.live_sender.specs.declared.origin.Origin.{Origin}
 use Rattle.live_sender.specs.Histories.{IsHistory}
-use Rattle.live_sender.specs.Turns.{Known}
+use Rattle.live_sender.specs.Turns.{Known, IsSeated}
 use Rattle.query_pool.specs.declared.jobs.Job.{Job}
 use Rattle.query_pool.specs.declared.jobs.Work.{Work}
 use Rattle.query_pool.specs.declared.lane.Done.{Done}
 use Rattle.query_pool.specs.Jobs.{HasRun, IsReadyJob, IsWork, reply_lists, request_lists, requests_of_work}
 use Rattle.query_pool.specs.Joined.{AreJoined, ArePartsOf, IsPart, lane_part, list_at}
-use Rattle.query_pool.specs.Lanes.{IsLane, IsSeated, lane_exchanges}
+use Rattle.query_pool.specs.Lanes.{IsLane, lane_exchanges}
 use Rattle.query_pool.specs.Seats.{AreCut, AreMet, IsBegun, IsFresh}
 use Rattle.query_pool.proofs.Gathered.{gathered, lane, lanes_places}
 use Rattle.query_pool.proofs.JoinedServes.{lanes-few}

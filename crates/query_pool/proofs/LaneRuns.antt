@@ -10,10 +10,10 @@ use Rattle.psi_frames.specs.declared.request.Request.{Request}
 use Rattle.psi_frames.specs.Frames.{answer_fits}
 use Rattle.psi_frames.specs.Requests.{IsFit}
 use Rattle.live_sender.specs.declared.origin.Origin.{Origin}
-use Rattle.live_sender.specs.Turns.{Known}
+use Rattle.live_sender.specs.Turns.{Known, IsSeated}
 use Rattle.query_pool.specs.declared.lane.Numbered.{Numbered}
 use Rattle.query_pool.specs.Exchanges.{IsOne, lane_exchange}
-use Rattle.query_pool.specs.Lanes.{IsLane, IsSeated, asked, lane_exchanges}
+use Rattle.query_pool.specs.Lanes.{IsLane, asked, lane_exchanges}
 use Rattle.query_pool.proofs.OneByOne.{exchanges-push, lane-more, lane-none, lane-seated}
 
 -- Some requests are done, and these are left; the seat went from v to w.

@@ -21,10 +21,11 @@ use Rattle.psi_frames.proofs.LaneServes.{next_entry}
 use Rattle.psi_frames.proofs.Placed.{none_from, some_place}
 use Rattle.live_sender.specs.declared.origin.Origin.{Origin}
 use Rattle.live_sender.specs.Histories.{first_version}
-use Rattle.live_sender.specs.Turns.{Known}
-use Rattle.query_pool.specs.Exchanges.{GoesOn, IsBodyAt, IsOne, IsToldEntry, IsToldFrom, IsToldFull, Tells, lane_exchange}
-use Rattle.query_pool.specs.Lanes.{IsFromBehind, IsFullWithin, IsLane, IsPlacedWithin, IsSeated, lane_exchanges}
-use Rattle.query_pool.proofs.Beginnings.{evaluated-goes, prefix-self, prefix-short, prefix-then, recorded-goes}
+use Rattle.live_sender.specs.Turns.{Known, IsSeated, GoesOn}
+use Rattle.query_pool.specs.Exchanges.{IsBodyAt, IsOne, IsToldEntry, IsToldFrom, IsToldFull, Tells, lane_exchange}
+use Rattle.query_pool.specs.Lanes.{IsFromBehind, IsFullWithin, IsLane, IsPlacedWithin, lane_exchanges}
+use Rattle.live_sender.proofs.Prefixes.{prefix-self, prefix-length, prefix-then}
+use Rattle.query_pool.proofs.Beginnings.{evaluated-goes, recorded-goes}
 
 -- the places of one exchange
 one-place : (e : Exchange) (n : ℕ) → place_of e.reply ≡ Some n → all_places (e ∷ []) ≡ n ∷ []
@@ -43,7 +44,7 @@ module _ (z : Origin) (v w : Known) (r : Request) (c : Call) (told : Reply) (goe
       let entry : Answer → Entry = λ a. record { call = c; answer = a } in
       let end = length-append e.met (entry e.answer ∷ []) in
       let all = ap length e.seen in
-      let first = prefix-short v.seen e.met e.begins in
+      let first = prefix-length v.seen e.met e.begins in
       record {
         gone = goes;
         own = e.own ∙ ap (λ (xs : List ℕ). v.own ++ xs) (sym (one-place x (length e.met) e.at));
@@ -153,10 +154,10 @@ module _ (z : Origin) (v w u : Known) (es : List Exchange) (e : Exchange) (l : I
   more = es ++ e ∷ []
 
   grown : length w.seen ≤ length u.seen
-  grown = prefix-short w.seen u.seen o.gone.follows
+  grown = prefix-length w.seen u.seen o.gone.follows
 
   begun : length v.seen ≤ length w.seen
-  begun = prefix-short v.seen w.seen l.follows
+  begun = prefix-length v.seen w.seen l.follows
 
   own-more : u.own ≡ v.own ++ all_places more
   own-more =

@@ -21,10 +21,10 @@ use Rattle.sender_core.specs.Kept.{View, RowSight, kept_at, kept_row, rows_of}
 use Rattle.sender_core.proofs.SoundSteps.{step-parameters}
 use Rattle.live_sender.specs.declared.origin.Origin.{Origin}
 use Rattle.live_sender.specs.Histories.{first_version, IsHistory}
-use Rattle.live_sender.specs.Turns.{Known, Entered, ShowsAt, Stayed, ViewsRow, Went}
+use Rattle.live_sender.specs.Turns.{Known, Entered, ShowsAt, Stayed, ViewsRow, Went, GoesOn}
 use Rattle.query_pool.specs.Caching.{AreRowsOfSet, HasOwnCache}
-use Rattle.query_pool.specs.Exchanges.{GoesOn, HasGoneOn, IsBodyAt, IsToldEntry, IsToldFrom, Tells}
-use Rattle.query_pool.proofs.Beginnings.{prefix-short, prefix-then}
+use Rattle.query_pool.specs.Exchanges.{HasGoneOn, IsBodyAt, IsToldEntry, IsToldFrom, Tells}
+use Rattle.live_sender.proofs.Prefixes.{prefix-length, prefix-then}
 
 -- ---- the seat
 
@@ -132,8 +132,8 @@ module _ (u v w : Known) (gone_on : HasGoneOn u v) (stayed : Stayed u v) where
   pub repack-from : (z : Origin) (row : ℕ) (view : RowSight CacheOf) (a : Answer) (place from : ℕ) (told : Reply) → ViewsRow cached_bins is_cached_under z v.seen row view
       → Entered v w (call.Repack view.row view.from) a place → from ≡ view.from → place_of told ≡ Some place → from_of told ≡ Some from → IsToldFrom u told
   repack-from z row view a place from told views e is at has = λ f x has_f at_x.
-      let first : length u.seen ≤ length v.seen = prefix-short u.seen v.seen gone_on.2.follows in
-      let behind : length v.seen ≤ length e.met = prefix-short v.seen e.met e.begins.seen in
+      let first : length u.seen ≤ length v.seen = prefix-length u.seen v.seen gone_on.2.follows in
+      let behind : length v.seen ≤ length e.met = prefix-length v.seen e.met e.begins.seen in
       let own : from ≡ f = same_Some from f (sym has ∙ has_f) in
       let there : place ≡ x = same_Some place x (sym at ∙ at_x) in
       (omega (arith, first, own, is, views.from), omega (arith, behind, own, is, views.from, there, e.at))

@@ -5,25 +5,19 @@ use Rattle.psi_turnstile.specs.Knowing.{Keeps}
 use Rattle.psi_bundle.specs.declared.history.Answer.{Answer}
 use Rattle.psi_bundle.specs.declared.history.Call.{Call}
 use Rattle.psi_bundle.specs.declared.history.Entry.{Entry}
-use Rattle.psi_bundle.specs.Histories.{version_at}
+use Rattle.psi_bundle.specs.Histories.{version_at, most_entries}
 use Rattle.query_codec.specs.Replies.{reply_body}
 use Rattle.psi_frames.specs.declared.reply.Reply.{Reply}
 use Rattle.psi_frames.specs.declared.reply.Reply.TheVariants as reply
 use Rattle.psi_frames.specs.declared.request.Request.{Request}
 use Rattle.psi_frames.specs.Requests.{code_of, is_repack, journal_full}
-use Rattle.psi_frames.specs.Served.{Exchange, HasPlaceOrIsFull, IsEvaluated, IsRecorded, all_places, answer_of, body_of, from_of, journal_limit, place_of}
+use Rattle.psi_frames.specs.Served.{Exchange, HasPlaceOrIsFull, IsEvaluated, IsRecorded, all_places, answer_of, body_of, from_of, place_of}
 use Rattle.live_sender.specs.declared.origin.Origin.{Origin}
 use Rattle.live_sender.specs.Histories.{first_version, IsHistory}
-use Rattle.live_sender.specs.Turns.{Known}
+use Rattle.live_sender.specs.Turns.{Known, GoesOn}
 use Rattle.query_pool.specs.Lanes.{IsFromBehind, IsFullWithin, IsPlacedWithin}
 
--- The seat goes on from v to w, along a history of its base, and nothing taken in is left to be seen.
-pub record GoesOn (z : Origin) (v w : Known) : Type 0 where
-  pub follows : IsPrefix v.seen w.seen
-  pub keeps : Keeps v w
-  pub history : IsHistory z w.seen
-
--- the same for the base that the seat has
+-- the seat goes on from v to w, along a history of the base that it has
 abbrev pub HasGoneOn : Known → Known → Type 0
 HasGoneOn v w = (z : Origin) × (v.base ≡ Some z) × GoesOn z v w
 
@@ -40,7 +34,7 @@ pub record IsToldEntry (v w : Known) (c : Call) (told : Reply) : Type 0 where
 -- The journal has its last entry, the seat made none, and the reply says that it is full.
 pub record IsToldFull (v w : Known) (told : Reply) : Type 0 where
   pub stayed : w.own ≡ v.own
-  pub full : journal_limit ≤ length w.seen
+  pub full : most_entries ≤ length w.seen
   pub tells : told ≡ reply.Refused journal_full
 
 -- what the reply to a call tells

@@ -14,7 +14,8 @@ use Rattle.query_pool.specs.declared.jobs.Work.{Work}
 use Rattle.query_pool.specs.declared.jobs.Work.TheVariants as kinds
 use Rattle.query_pool.specs.declared.lane.Done.{Done}
 use Rattle.query_pool.specs.Caching.{IsScratch}
-use Rattle.query_pool.specs.Lanes.{IsLane, IsSeated, asked, lane_exchanges}
+use Rattle.live_sender.specs.Turns.{IsSeated}
+use Rattle.query_pool.specs.Lanes.{IsLane, asked, lane_exchanges}
 
 -- the requests of a thread: a lane's own, and a builder's none
 abbrev pub requests_of_work : Work → List Request

@@ -3,11 +3,12 @@ use Rattle.std.specs.Prelude.{◌≡◌, ℕ, ◌+◌, ◌%◌, ◌<◌, ◌≤�
 use Rattle.std.specs.List.{All, AllPairs}
 use Rattle.psi_bundle.specs.declared.history.Entry.{Entry}
 use Rattle.psi_turnstile.specs.Counting.{IsPrefix, below, times}
+use Rattle.psi_bundle.specs.Histories.{most_entries}
 use Rattle.psi_frames.specs.declared.reply.Reply.{Reply}
 use Rattle.psi_frames.specs.declared.reply.Reply.TheVariants as reply
 use Rattle.psi_frames.specs.declared.request.Request.{Request}
 use Rattle.psi_frames.specs.Requests.{is_repack, journal_full, session_of}
-use Rattle.psi_frames.specs.Served.{Exchange, AreRefusedByCode, HasPlaceOrIsFull, IsEvaluated, IsRecorded, PlacesRise, SeesOwn, StaysFull, all_places, from_of, journal_limit, place_of}
+use Rattle.psi_frames.specs.Served.{Exchange, AreRefusedByCode, HasPlaceOrIsFull, IsEvaluated, IsRecorded, PlacesRise, SeesOwn, StaysFull, all_places, from_of, place_of}
 use Rattle.live_sender.specs.declared.origin.Origin.{Origin}
 use Rattle.live_sender.specs.Histories.{first_version, IsHistory}
 use Rattle.query_pool.specs.Lanes.{lane_exchanges}
@@ -40,7 +41,7 @@ pub record IsPart (z : Origin) (given history : List Entry) (es : List Exchange)
   pub repacks : All (λ e. is_repack e.request ≡ true → IsSome (place_of e.reply) → IsSome (from_of e.reply)) es
   pub recorded : All (IsRecorded history) es
   pub evaluated : All (IsEvaluated z.parameters (first_version z) history) es
-  pub full : All (λ e. e.reply ≡ reply.Refused journal_full → journal_limit ≤ length history) es
+  pub full : All (λ e. e.reply ≡ reply.Refused journal_full → most_entries ≤ length history) es
   pub froms : All (λ e. (from x : ℕ) → from_of e.reply ≡ Some from → place_of e.reply ≡ Some x → (length given ≤ from) × (from ≤ x)) es
   pub rising : AllPairs PlacesRise es
   pub stay : AllPairs StaysFull es

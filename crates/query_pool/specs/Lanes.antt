@@ -3,11 +3,12 @@ use Rattle.std.specs.Prelude.{◌≡◌, ℕ, ◌<◌, ◌≤◌, true, List, []
 use Rattle.std.specs.List.{All, AllPairs}
 use Rattle.psi_turnstile.specs.Counting.{IsPrefix}
 use Rattle.psi_turnstile.specs.Knowing.{Keeps}
+use Rattle.psi_bundle.specs.Histories.{most_entries}
 use Rattle.psi_frames.specs.declared.reply.Reply.{Reply}
 use Rattle.psi_frames.specs.declared.reply.Reply.TheVariants as reply
 use Rattle.psi_frames.specs.declared.request.Request.{Request}
 use Rattle.psi_frames.specs.Requests.{is_repack, journal_full}
-use Rattle.psi_frames.specs.Served.{Exchange, AreRefusedByCode, HasPlaceOrIsFull, IsEvaluated, IsRecorded, PlacesRise, SeesOwn, StaysFull, addressed, all_places, exchanges, from_of, journal_limit, place_of}
+use Rattle.psi_frames.specs.Served.{Exchange, AreRefusedByCode, HasPlaceOrIsFull, IsEvaluated, IsRecorded, PlacesRise, SeesOwn, StaysFull, addressed, all_places, exchanges, from_of, place_of}
 use Rattle.live_sender.specs.declared.origin.Origin.{Origin}
 use Rattle.live_sender.specs.Histories.{first_version, IsHistory}
 use Rattle.live_sender.specs.Turns.{Known}
@@ -21,12 +22,6 @@ asked ns = map (λ n. n.request) ns
 abbrev pub lane_exchanges : List Request → List Reply → List Exchange
 lane_exchanges requests replies = exchanges (requests ∷ []) (addressed requests replies)
 
--- A seat as a lane begins with it: nothing taken in is left to be seen, and what it has seen is a history of its base.
-pub record IsSeated (z : Origin) (v : Known) : Type 0 where
-  pub base : v.base ≡ Some z
-  pub taken : v.taken ≡ []
-  pub history : IsHistory z v.seen
-
 -- the place of a reply is behind what the seat had seen, and within what it has seen
 abbrev pub IsPlacedWithin : (v w : Known) → Exchange → Type 0
 IsPlacedWithin v w e = (x : ℕ) → place_of e.reply ≡ Some x → (length v.seen ≤ x) × (x < length w.seen)
@@ -37,7 +32,7 @@ IsFromBehind v e = (from x : ℕ) → from_of e.reply ≡ Some from → place_of
 
 -- a reply that the journal is full comes where it has its last entry
 abbrev pub IsFullWithin : Known → Exchange → Type 0
-IsFullWithin w e = e.reply ≡ reply.Refused journal_full → journal_limit ≤ length w.seen
+IsFullWithin w e = e.reply ≡ reply.Refused journal_full → most_entries ≤ length w.seen
 
 -- A lane goes from v to w with these exchanges, each told by the history that its seat has seen at the end.
 pub record IsLane (z : Origin) (v w : Known) (es : List Exchange) : Type 0 where

@@ -5,8 +5,7 @@ ghost use Rattle.std.specs.Thread.{IsSync};
 ghost use Rattle.noise_ledger.specs.Verdicts.{ArePassed, parameters_of};
 ghost use Rattle.bundle_cache.specs.Caches.{IsBundleBlock};
 ghost use Rattle.live_sender.specs.declared.origin.Origin.{Origin};
-ghost use Rattle.query_pool.specs.Lanes.{IsSeated};
-ghost use Rattle.query_pool.specs.Exchanges.{GoesOn};
+ghost use Rattle.live_sender.specs.Turns.{IsSeated, GoesOn};
 ghost use Rattle.query_pool.specs.Jobs.{HasRun, IsReadyJob};
 
 use crate::lane::{Done, Lane, Numbered, run_lane};

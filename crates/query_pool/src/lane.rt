@@ -7,7 +7,8 @@ ghost use Rattle.psi_frames.specs.Requests.{IsFit};
 ghost use Rattle.live_sender.specs.declared.origin.Origin.{Origin};
 ghost use Rattle.query_pool.specs.Caching.{IsScratch};
 ghost use Rattle.query_pool.specs.Exchanges.{IsOne, lane_exchange};
-ghost use Rattle.query_pool.specs.Lanes.{IsLane, IsSeated, asked, lane_exchanges};
+ghost use Rattle.live_sender.specs.Turns.{IsSeated};
+ghost use Rattle.query_pool.specs.Lanes.{IsLane, asked, lane_exchanges};
 
 use crate::in_turn::{ask, drop_tag, put, repack};
 use bundle_cache::{Cache, Scratch};

@@ -76,6 +76,5 @@ fn builder(params: &Params, number: u8) -> Work
 fn budget(params: &Params) -> u32
     ensures { result ≡ budget_of (parameters_of params.now) }
 {
-    let rows = (1 + u32::from(params.units)) * (u32::from(params.capacity) + 1);
-    (ROWS_OF_BUILDER / rows).max(1)
+    (ROWS_OF_BUILDER / params.block_rows() as u32).max(1)
 }
