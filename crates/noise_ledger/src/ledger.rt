@@ -1,10 +1,10 @@
 //! The ledger of parameters, and their check.
-ghost use Rattle.std.specs.Prelude.{◌≡◌, ◌<◌, ◌^◌, ◌↔◌, IsNone, IsOk};
-ghost use Rattle.noise_ledger.specs.Ledgers.{carry_of, noise_of, used_of};
+ghost use Rattle.std.specs.Prelude.{◌≡◌, ◌<◌, ◌≤◌, ◌^◌, ◌↔◌, IsNone, IsOk};
+ghost use Rattle.noise_ledger.specs.Ledgers.{carry_of, form_rounding, noise_of, rounding_of, used_of};
 ghost use Rattle.noise_ledger.specs.Verdicts.{parameters_of, range_fault, ciphertexts_of, least_cells, judged, ledger_of, AreInRange, ArePassed};
 
 use crate::params::Params;
-use psi_residue::{N, Q, R, T};
+use psi_residue::{N, Q, Q2, R, T};
 
 // The greatest coefficient of a plaintext.
 const GREATEST: u128 = 65536;
@@ -114,6 +114,7 @@ fn cells(params: &Params) -> u32
 
 // The ledger of the parameters.
 fn ledger_of(params: &Params) -> Ledger
+    requires { params.now.drop ≤ 20 }
     ensures { result ≡ ledger_of (parameters_of params.now) }
 {
     Ledger {
@@ -142,10 +143,35 @@ fn noise(capacity: u16) -> u128
     u128::from(R) * carry(capacity) + ERROR * u128::from(capacity) * (N as u128 * GREATEST)
 }
 
-// What the noise of a reply uses of the ciphertext modulus.
+// Twice the greatest rounding error of a short ciphertext, in units of the first modulus.
+#[tactic(auto, unfolding(crate::specs::Ledgers::rounding_of))]
+fn rounding(drop: u8) -> u128
+    requires { drop ≤ 20 }
+    ensures value { result ≡ rounding_of drop }
+    ensures below { result < 2 ^ 34 }
+{
+    (N as u128 + 1) * (1 + 2 * ((1 << drop) / 2))
+}
+
+// The same modulo the ciphertext modulus, for a reply's ciphertext.
+fn form_rounding(params: &Params) -> u128
+    requires { params.now.drop ≤ 20 }
+    ensures value { result ≡ form_rounding (parameters_of params.now) }
+    ensures below { result < 2 ^ 70 }
+{
+    if params.form == 2 {
+        u128::from(Q2) * rounding(params.drop)
+    } else {
+        0
+    }
+}
+
+// What the noise of a reply and its rounding use of the ciphertext modulus.
 #[tactic(auto, unfolding(crate::specs::Ledgers::used_of))]
 fn used(params: &Params) -> u128
+    requires { params.now.drop ≤ 20 }
     ensures { result ≡ used_of (parameters_of params.now) }
 {
-    2 * (u128::from(T) * noise(params.capacity) + u128::from(R) * GREATEST)
+    let noise = u128::from(T) * noise(params.capacity) + u128::from(R) * GREATEST;
+    2 * noise + u128::from(T) * form_rounding(params)
 }
