@@ -67,7 +67,7 @@ evaluated-c1 m c count factors lists positive e lf ll i le =
     plus_none x = omega arith
 
 -- c0 + c1·s modulo m
-phase_residue-ring : (m c : ℕ) (key : List ℤ) (c0 c1 : List ℕ) → 0 < m → (c + 1) % m ≡ 0 → length key ≡ suc 4095 → length c1 ≡ suc 4095
+pub phase_residue-ring : (m c : ℕ) (key : List ℤ) (c0 c1 : List ℕ) → 0 < m → (c + 1) % m ≡ 0 → length key ≡ suc 4095 → length c1 ≡ suc 4095
     → (i : ℕ) → i ≤ 4095 → phase_residue m key c0 c1 i % m ≡ (coefficient c0 i + ring 4095 c (coefficient c1) (coefficient (residues_of m key)) i) % m
 unfolding phase_residue
 phase_residue-ring m c key c0 c1 positive e lk lc i le =
