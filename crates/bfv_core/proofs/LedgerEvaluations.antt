@@ -1,5 +1,5 @@
 -- What c0 + c1·s of an evaluation is, modulo each residue modulus and modulo the ciphertext modulus.
-use Rattle.std.proofs.Common.{◌≡◌, ℕ, suc, true, false, ◌+◌, ◌*◌, ◌%◌, ◌<◌, ◌≤◌, List, length, get_or, refl, ap, ◌∙◌, arith}
+use Rattle.std.proofs.Common.{◌≡◌, ℕ, suc, Bool, true, false, ◌+◌, ◌*◌, ◌%◌, ◌<◌, ◌≤◌, List, length, get_or, refl, ap, ◌∙◌, arith}
 use Rattle.std.specs.Prelude.{ℤ}
 use Rattle.std.proofs.lemmas.List.{length-map}
 use Rattle.std.proofs.Math.Nat.{mod-mod}
@@ -7,6 +7,7 @@ use Rattle.psi_residue.specs.Sums.{sum_below, table}
 use Rattle.psi_residue.specs.Numbers.{first_modulus, second_modulus, cipher_modulus, scale}
 use Rattle.psi_residue.specs.Ring.{product_at}
 use Rattle.psi_residue.specs.Residues.{residue_of, residues_of}
+use Rattle.psi_residue.proofs.Polynomials.{IsPolynomial-table}
 use Rattle.psi_residue.proofs.Sums.{length-table, slice_index-table}
 use Rattle.psi_residue.proofs.Congruences.{sum_congruent, sum_below-mod}
 use Rattle.negacyclic.proofs.Ring.{ring}
@@ -131,3 +132,18 @@ evaluated-phase count key factors ciphertexts lk lf h i le =
     (evaluated-residue second_modulus minus_one count key factors (λ k. list_at (ciphertexts k) 1) (λ k. list_at (ciphertexts k) 3) (λ k. phase key (ciphertexts k))
     (omega arith) minus_one-second lk lf (λ k lt. (h k lt).c0_second.size) (λ k lt. (h k lt).c1_second.size)
     (λ k lt l lel. phase-second key (ciphertexts k) lk (h k lt) l lel) i le)
+
+at-below : (m : ℕ) (of_c0 : Bool) (count : ℕ) (factors lists : ℕ → List ℕ) (i : ℕ) → 0 < m → evaluated_at m of_c0 count factors lists i < m
+unfolding evaluated_at
+at-below m of_c0 count factors lists i positive = omega arith
+
+-- an evaluation is a ciphertext
+pub evaluated-ciphertext : (count : ℕ) (factors : ℕ → List ℕ) (cts : ℕ → List (List ℕ)) → IsCiphertext (evaluated count factors cts)
+unfolding evaluated
+evaluated-ciphertext count factors cts = record {
+  four = refl;
+  c0_first = IsPolynomial-table first_modulus _ (λ i lt. at-below first_modulus true count factors (λ k. list_at (cts k) 0) i (omega arith));
+  c0_second = IsPolynomial-table second_modulus _ (λ i lt. at-below second_modulus true count factors (λ k. list_at (cts k) 1) i (omega arith));
+  c1_first = IsPolynomial-table first_modulus _ (λ i lt. at-below first_modulus false count factors (λ k. list_at (cts k) 2) i (omega arith));
+  c1_second = IsPolynomial-table second_modulus _ (λ i lt. at-below second_modulus false count factors (λ k. list_at (cts k) 3) i (omega arith));
+}

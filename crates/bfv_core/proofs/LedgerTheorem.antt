@@ -276,11 +276,15 @@ evaluation-carries p key ciphertexts plaintexts factors h i lt =
           (carry-rest p.capacity factors plaintexts i carry.up carry.down carry.exact);
     }
 
+pub opened-within : (noise x m : ℕ) → 2 * (plain_modulus * noise + scale_rest * greatest_coefficient) < cipher_modulus → m < plain_modulus
+    → IsNear cipher_modulus noise x (scale * m) → opened_coefficient x ≡ m
+unfolding opened_coefficient
+opened-within noise x m fits below near =
+    opened-near cipher_modulus plain_modulus scale scale_rest greatest_coefficient noise x m (omega arith) refl below (omega arith) fits near
+
 opened-is : (p : Parameters) (x m : ℕ) → passes p → m < plain_modulus → IsNear cipher_modulus (noise_of p.capacity) x (scale * m) → opened_coefficient x ≡ m
-unfolding opened_coefficient used_of
-opened-is p x m passed below near =
-    let fits : 2 * (plain_modulus * noise_of p.capacity + scale_rest * greatest_coefficient) < cipher_modulus = omega (arith, passed) in
-    opened-near cipher_modulus plain_modulus scale scale_rest greatest_coefficient (noise_of p.capacity) x m (omega arith) refl below (omega arith) fits near
+unfolding used_of
+opened-is p x m passed below near = opened-within (noise_of p.capacity) x m (omega (arith, passed)) below near
 
 -- What carries a plaintext within the noise of a ledger that passes opens to it.
 pub carried-opens : (p : Parameters) (key : List ℤ) (ct : List (List ℕ)) (plain : List ℕ) → passes p → IsPolynomial plain_modulus plain

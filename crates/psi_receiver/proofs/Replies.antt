@@ -1,36 +1,18 @@
 -- The ciphertexts of the reply to a query: each is the evaluation of a plane of a bundle at the query's powers.
-use Rattle.std.proofs.Common.{◌≡◌, ℕ, ◌+◌, ◌*◌, ◌<◌, Bool, true, false, List, [], length, get_or, take, refl, ap, subst, ◌∙◌, sym, arith}
+use Rattle.std.proofs.Common.{◌≡◌, ℕ, ◌+◌, ◌*◌, ◌<◌, List, [], length, get_or, take, ap, subst, ◌∙◌, sym, arith}
 use Rattle.std.specs.List.{All, AllByRecursion, flat_map, range_with_len, sum}
 use Rattle.std.proofs.lemmas.List.{get_or-map, length-map}
 use Rattle.std.proofs.lemmas.List.Elements.{All-from_recursion}
 use Rattle.std.proofs.lemmas.List.FromFn.{get_or-map-range_with_len, length-map-range_with_len}
 use Rattle.std.proofs.lemmas.List.Sums.{sum_by_more_le}
 use Rattle.std.proofs.lemmas.Nat.{mul-add-lt}
-use Rattle.psi_residue.specs.Ciphertexts.{IsCiphertext, list_at}
-use Rattle.psi_residue.specs.Evaluations.{evaluated, evaluated_at}
-use Rattle.psi_residue.specs.Numbers.{first_modulus, second_modulus}
+use Rattle.psi_residue.specs.Ciphertexts.{IsCiphertext}
 use Rattle.psi_residue.specs.Parameters.{Parameters}
-use Rattle.psi_residue.proofs.Polynomials.{IsPolynomial-table}
+use Rattle.bfv_core.proofs.LedgerEvaluations.{evaluated-ciphertext}
 use Rattle.psi_bundle.specs.Bodies.{bundle_counts, evaluated_bundle, evaluated_plane, evaluated_rows}
 use Rattle.psi_bundle.specs.Planes.{planes_of_bundle}
 use Rattle.psi_bundle.specs.Versions.{Row, Stamped, row_at, bins_at}
 use Rattle.psi_receiver.proofs.Lists.{by_bundle, length-by_bundle, bundle-at, all-by_bundle, all-mapped, joined-by_bundle, block-at, length-blocks, all-blocks}
-
--- ---- an evaluation is a ciphertext
-
-at-below : (m : ℕ) (of_c0 : Bool) (count : ℕ) (factors lists : ℕ → List ℕ) (i : ℕ) → 0 < m → evaluated_at m of_c0 count factors lists i < m
-unfolding evaluated_at
-at-below m of_c0 count factors lists i positive = omega arith
-
-evaluated-whole : (count : ℕ) (factors : ℕ → List ℕ) (cts : ℕ → List (List ℕ)) → IsCiphertext (evaluated count factors cts)
-unfolding evaluated
-evaluated-whole count factors cts = record {
-  four = refl;
-  c0_first = IsPolynomial-table first_modulus _ (λ i lt. at-below first_modulus true count factors (λ k. list_at (cts k) 0) i (omega arith));
-  c0_second = IsPolynomial-table second_modulus _ (λ i lt. at-below second_modulus true count factors (λ k. list_at (cts k) 1) i (omega arith));
-  c1_first = IsPolynomial-table first_modulus _ (λ i lt. at-below first_modulus false count factors (λ k. list_at (cts k) 2) i (omega arith));
-  c1_second = IsPolynomial-table second_modulus _ (λ i lt. at-below second_modulus false count factors (λ k. list_at (cts k) 3) i (omega arith));
-}
 
 -- ---- the ciphertexts of all planes, a block for each bundle
 
@@ -57,7 +39,7 @@ all-evaluated p rows query =
     (subst (AllByRecursion IsCiphertext) (sym (blocks-are p rows query))
     (all-blocks IsCiphertext (by_bundle (block_of p query) 0 rows)
     (all-by_bundle (AllByRecursion IsCiphertext) (block_of p query) 0 rows
-    (λ r u. all-mapped IsCiphertext (evaluated_plane p query r u.bins) (range_with_len 0 (planes_of_bundle p)) (λ plane. evaluated-whole _ _ _)))))
+    (λ r u. all-mapped IsCiphertext (evaluated_plane p query r u.bins) (range_with_len 0 (planes_of_bundle p)) (λ plane. evaluated-ciphertext _ _ _)))))
 
 -- the number of a bundle, and of one of its planes
 bundle-within : (rows : List Row) (r u : ℕ) → r < length rows → u < length (row_at rows r) → sum (take r (bundle_counts rows)) + u < sum (bundle_counts rows)

@@ -2,3 +2,4 @@ pub mod Ciphertexts
 pub mod Queries
 pub mod Replies
 pub mod Laws
+pub mod ShortNumbers

@@ -18,6 +18,7 @@ mod fault;
 mod header;
 mod laws;
 mod lists;
+mod numbers;
 mod query;
 mod reply;
 
