@@ -14,7 +14,7 @@ use Rattle.bfv_core.specs.Encryptions.{IsKey, Carries}
 use Rattle.bfv_core.specs.EncryptedLists.{key_of_seed, hidden, encrypted, first_mask, second_mask}
 use Rattle.psi_residue.proofs.Polynomials.{IsPolynomial-table}
 use Rattle.bfv_core.proofs.Carrying.{carries-encrypted}
-use Rattle.query_codec.specs.Queries.{encrypted_powers as body_ciphertexts, query_length}
+use Rattle.query_codec.specs.Queries.{query_ciphertexts as body_ciphertexts, query_length}
 use Rattle.query_codec.proofs.QueryBodies.{IsQuery-written, query_read_back}
 use Rattle.psi_receiver.specs.declared.placement.Placed.{Placed}
 use Rattle.psi_receiver.specs.Queries.{IsQueryOf, query_ciphertext, encrypted_powers, query_of}

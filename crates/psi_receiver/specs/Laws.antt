@@ -9,7 +9,7 @@ use Rattle.noise_ledger.specs.Verdicts.{ArePassed}
 use Rattle.psi_bundle.specs.declared.member.Member.{Member}
 use Rattle.psi_bundle.specs.Histories.{AreBytes, HoldBytes}
 use Rattle.psi_bundle.specs.Versions.{Row, Version, IsSound}
-use Rattle.query_codec.specs.Queries.{encrypted_powers as body_ciphertexts}
+use Rattle.query_codec.specs.Queries.{query_ciphertexts as body_ciphertexts}
 use Rattle.query_codec.specs.Replies.{reply_body}
 use Rattle.psi_receiver.specs.declared.found.Found.{Found}
 use Rattle.psi_receiver.specs.declared.placement.Placed.{Placed}
