@@ -4,13 +4,11 @@ use Rattle.std.specs.Prelude.{◌≡◌, ℕ, zero, suc, ◌+◌, ◌-◌, ◌<�
 use Rattle.std.specs.List.{All, AllByRecursion, range_with_len}
 use Rattle.std.specs.List.Sorted.{IsPermutation}
 use Rattle.std.proofs.Common.{refl, sym, ap, ◌∙◌, subst, arith, append-nil, length-append}
-use Rattle.std.proofs.Math.ListN.{get_or-append}
 use Rattle.std.proofs.lemmas.Bool.Decides.{nat_tests}
 use Rattle.std.proofs.lemmas.List.{map-append, nil_from_length, take-append-drop, take-append-le, take_all}
 use Rattle.std.proofs.lemmas.List.Concat.{flat_map-append}
 use Rattle.std.proofs.lemmas.List.Elements.{All-append, All-from_recursion, All-map, All-nil, recursion_from_All}
 use Rattle.std.proofs.lemmas.List.Sorted.{IsPermutation-append, IsPermutation-refl}
-use Rattle.std.proofs.lemmas.Option.{slice_get-get_or}
 use Rattle.psi_residue.specs.Parameters.{Parameters}
 use Rattle.psi_bundle.specs.declared.history.Entry.{Entry}
 use Rattle.psi_bundle.specs.Versions.{Version}
@@ -22,6 +20,7 @@ use Rattle.psi_frames.specs.OneLane.{HasByteCode}
 use Rattle.psi_frames.specs.Requests.{code_of, is_repack, journal_full, asked_ciphertexts}
 use Rattle.psi_frames.specs.Served.{AreServed, Exchange, FollowOn, HasPlaceOrIsFull, HaveOneReplyEach, IsEvaluated, IsFromWithin, IsOneLane, IsRecorded, IsServed, PlacesRise, SameSession, SeesOwn, Sent, StaysFull, address_of_reply, address_of_request, all_places, exchanges, first_place, from_of, place_of, places_in, places_of_round, requests_of, uncoded_of_round}
 use Rattle.psi_frames.proofs.Each.{each-weaker}
+use Rattle.psi_frames.proofs.EntryLists.{front-get}
 use Rattle.psi_frames.proofs.FirstRounds.{before-more}
 use Rattle.psi_frames.proofs.Following.{before}
 use Rattle.psi_frames.proofs.OneText.{IsFrom}
@@ -29,12 +28,6 @@ use Rattle.psi_frames.proofs.Placed.{IsCodedRight, from_placed, places-append, p
 use Rattle.psi_frames.proofs.Pairs.{pairs-append, pairs-map}
 use Rattle.psi_frames.proofs.Places.{IsBelow, none_placed, permuted-from, permuted-length, places-each, places-fewer, places-parts, recorded-below}
 use Rattle.psi_frames.proofs.Renumbered.{exchanges-one_more, exchanges-part, in_round, moved, places-moved, requests-each, requests-part, rounds-below, rounds-first, uncoded-none}
-
--- what a front of a history tells, the history tells
-pub front-get : (middle rest : List Entry) (x : ℕ) → x < length middle → slice_get (middle ++ rest) x ≡ slice_get middle x
-front-get [] rest x lt = absurd (omega (arith, lt))
-front-get (e ∷ es) rest x lt =
-    slice_get-get_or ((e ∷ es) ++ rest) x e (omega (arith, lt, length-append (e ∷ es) rest)) ∙ ap Some (get_or-append (e ∷ es) rest e x lt) ∙ sym (slice_get-get_or (e ∷ es) x e lt)
 
 -- a reply of a full journal is to a request without a code
 full-uncoded : (e : Exchange) (o : Option ℕ) → code_of e.request ≡ o → HasByteCode e.request → IsCodedRight e → e.reply ≡ reply.Refused journal_full → code_of e.request ≡ None

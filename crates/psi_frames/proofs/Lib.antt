@@ -20,6 +20,7 @@ pub mod RoundRequests
 pub mod ReplyLaws
 pub mod Sending
 pub mod FirstRounds
+pub mod EntryLists
 pub mod Pairs
 pub mod Places
 pub mod Renumbered

@@ -11,7 +11,7 @@ use Rattle.psi_frames.specs.Served.{Exchange, HistoryIsOne, IsRecorded, Sent, al
 use Rattle.psi_frames.proofs.Each.{each-both, each-weaker}
 use Rattle.psi_frames.proofs.FirstRounds.{first-rounds}
 use Rattle.psi_frames.proofs.Following.{before}
-use Rattle.psi_frames.proofs.Joins.{front-get}
+use Rattle.psi_frames.proofs.EntryLists.{front-get}
 use Rattle.psi_frames.proofs.Placed.{places-every, tells_answer}
 use Rattle.psi_frames.proofs.Renumbered.{rounds-below}
 

@@ -17,16 +17,19 @@ use std::alloc::{AllocError, Global};
 /// of 129 to 137, or its body has a wrong length; the body of an Answer has any length from 8 bytes on. The only error is
 /// memory that runs out.
 pub fn read_answer(alloc: Global, frame: &Frame) -> Result<Option<Reply>, AllocError>
-    ensures row { IfOk result (λ found. IsSome found ↔ IsTrue (is_reply_row frame.now.kind (length frame.now.body))) }
+    ensures row { IfOk result (λ found.
+        IsSome found ↔ IsTrue (is_reply_row frame.now.kind (length frame.now.body))) }
     ensures tells { IfOk result (λ found. IfSome found (Tells frame.now.kind frame.now.body)) }
-    ensures only { IfOk result (λ found. (r : Reply) → Tells frame.now.kind frame.now.body r → found ≡ Some r) }
+    ensures only { IfOk result (λ found.
+        (r : Reply) → Tells frame.now.kind frame.now.body r → found ≡ Some r) }
 {
     read_reply(alloc, frame.kind, frame.body.items())
 }
 
 // The reply that a frame of this kind and body tells.
 fn read_reply(alloc: Global, kind: u8, body: &[u8]) -> Result<Option<Reply>, AllocError>
-    ensures row { IfOk result (λ found. IsSome found ↔ IsTrue (is_reply_row kind (length body.now))) }
+    ensures row { IfOk result (λ found.
+        IsSome found ↔ IsTrue (is_reply_row kind (length body.now))) }
     ensures tells { IfOk result (λ found. IfSome found (Tells kind body.now)) }
     ensures only { IfOk result (λ found. (r : Reply) → Tells kind body.now r → found ≡ Some r) }
 {

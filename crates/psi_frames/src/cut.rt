@@ -22,7 +22,8 @@ pub(crate) struct Cut {
 
 /// The whole frames that bytes begin with, and what stands behind them.
 pub(crate) fn cut_frames(alloc: Global, replies: bool, bytes: &[u8]) -> Result<Cut, AllocError>
-    ensures { IfOk result (λ cut. IsCut (table_of replies) bytes.now cut.frames.items cut.begun (fault_met cut.fault)) }
+    ensures { IfOk result (λ cut.
+        IsCut (table_of replies) bytes.now cut.frames.items cut.begun (fault_met cut.fault)) }
 {
     let mut frames = VecDeque::new(alloc);
     let mut rest = bytes;

@@ -80,16 +80,22 @@ impl Feed {
     /// feed is as before the call.
     pub fn feed(&mut self, alloc: Global, piece: &[u8]) -> Result<(), FrameFault>
         // Whole frames of the bytes so far, and none else.
-        ensures fed { OnOk result ((bytes : List ℕ) (taken : List Frame) → HasFed self.old bytes taken → HasFed self.new (bytes ++ piece.now) taken) }
-        ensures fed_faulty { (fault : Fault) → self.new.fault ≡ Some fault → (bytes : List ℕ) (taken : List Frame) → HasFed self.old bytes taken → HasFed self.new (bytes ++ piece.now) taken }
+        ensures fed { OnOk result ((bytes : List ℕ) (taken : List Frame)
+            → HasFed self.old bytes taken → HasFed self.new (bytes ++ piece.now) taken) }
+        ensures fed_faulty { (fault : Fault) → self.new.fault ≡ Some fault
+            → (bytes : List ℕ) (taken : List Frame) → HasFed self.old bytes taken
+            → HasFed self.new (bytes ++ piece.now) taken }
         ensures table { self.new.replies ≡ self.old.replies }
 
         // The fault, and no other one.
         ensures ok { OnOk result (self.new.fault ≡ None) }
-        ensures err { IfErr result (λ told. (told ≡ NoMemory) ⊎ ((fault : Fault) × (self.new.fault ≡ Some fault) × (told ≡ told_fault fault) × (fault ≡ Short → ⊥))) }
+        ensures err { IfErr result (λ told. (told ≡ NoMemory)
+            ⊎ ((fault : Fault) × (self.new.fault ≡ Some fault) × (told ≡ told_fault fault)
+            × (fault ≡ Short → ⊥))) }
 
         // What stays.
-        ensures stuck { (fault : Fault) → self.old.fault ≡ Some fault → (result ≡ Err (told_fault fault)) × (self.new ≡ self.old) }
+        ensures stuck { (fault : Fault) → self.old.fault ≡ Some fault
+            → (result ≡ Err (told_fault fault)) × (self.new ≡ self.old) }
         ensures no_memory { result ≡ Err NoMemory → self.new ≡ self.old }
     {
         match self.fault {
@@ -102,10 +108,13 @@ impl Feed {
     fn take(&mut self, alloc: Global, piece: &[u8]) -> Result<(), FrameFault>
         requires { self.old.fault ≡ None }
         ensures fed { OnOk result (TakesIn self.old self.new piece.now) }
-        ensures fed_faulty { (fault : Fault) → self.new.fault ≡ Some fault → TakesIn self.old self.new piece.now }
+        ensures fed_faulty { (fault : Fault) → self.new.fault ≡ Some fault
+            → TakesIn self.old self.new piece.now }
         ensures table { self.new.replies ≡ self.old.replies }
         ensures ok { OnOk result (self.new.fault ≡ None) }
-        ensures err { IfErr result (λ told. (told ≡ NoMemory) ⊎ ((fault : Fault) × (self.new.fault ≡ Some fault) × (told ≡ told_fault fault) × (fault ≡ Short → ⊥))) }
+        ensures err { IfErr result (λ told. (told ≡ NoMemory)
+            ⊎ ((fault : Fault) × (self.new.fault ≡ Some fault) × (told ≡ told_fault fault)
+            × (fault ≡ Short → ⊥))) }
         ensures no_memory { result ≡ Err NoMemory → self.new ≡ self.old }
     {
         let fault = take(alloc, self.replies, &mut self.ready, &mut self.begun, piece)?;
@@ -117,8 +126,10 @@ impl Feed {
     pub fn next(&mut self) -> Option<Frame>
         ensures none { IsNone result ↔ (self.old.ready ≡ []) }
         ensures stays { IsNone result → self.new ≡ self.old }
-        ensures taken { IfSome result (λ frame. self.old ≡ record self.new { ready = frame ∷ self.new.ready }) }
-        ensures fed { IfSome result (λ frame. (bytes : List ℕ) (taken : List Frame) → HasFed self.old bytes taken → HasFed self.new bytes (taken ++ frame ∷ [])) }
+        ensures taken { IfSome result (λ frame.
+            self.old ≡ record self.new { ready = frame ∷ self.new.ready }) }
+        ensures fed { IfSome result (λ frame. (bytes : List ℕ) (taken : List Frame)
+            → HasFed self.old bytes taken → HasFed self.new bytes (taken ++ frame ∷ [])) }
     {
         self.ready.pop_front()
     }
@@ -127,7 +138,8 @@ impl Feed {
     /// met is told again.
     pub fn finish(&self) -> Result<(), FrameFault>
         ensures ok { OnOk result (end_fault self.now.fault self.now.rest ≡ None) }
-        ensures err { IfErr result (λ told. (fault : Fault) × (end_fault self.now.fault self.now.rest ≡ Some fault) × (told ≡ told_fault fault)) }
+        ensures err { IfErr result (λ told. (fault : Fault)
+            × (end_fault self.now.fault self.now.rest ≡ Some fault) × (told ≡ told_fault fault)) }
     {
         match self.fault {
             Some(fault) => Err(told(fault)),
@@ -140,7 +152,8 @@ impl Feed {
 // The answer behind some bytes, by the fault that was met.
 fn answer(fault: Option<HeadFault>) -> Result<(), FrameFault>
     ensures ok { OnOk result (fault_met fault ≡ None) }
-    ensures err { IfErr result (λ told. (met : Fault) × (fault_met fault ≡ Some met) × (told ≡ told_fault met) × (met ≡ Short → ⊥)) }
+    ensures err { IfErr result (λ told. (met : Fault) × (fault_met fault ≡ Some met)
+        × (told ≡ told_fault met) × (met ≡ Short → ⊥)) }
 {
     match fault {
         Some(fault) => Err(told(fault)),
@@ -167,7 +180,9 @@ fn take(
     piece: &[u8],
 ) -> Result<Option<HeadFault>, AllocError>
     requires { IsBegun (table_of replies) begun.old }
-    ensures ok { IfOk result (λ fault. IsTaken (table_of replies) (begun.old ++ piece.now) ready.old.items ready.new.items begun.new (fault_met fault)) }
+    ensures ok { IfOk result (λ fault.
+        IsTaken (table_of replies) (begun.old ++ piece.now) ready.old.items ready.new.items
+        begun.new (fault_met fault)) }
     ensures err { OnErr result ((ready.new.items ≡ ready.old.items) × (begun.new ≡ begun.old)) }
 {
     match begun.front(replies, piece) {
@@ -197,8 +212,11 @@ fn take_frames(
     behind: &[u8],
 ) -> Result<Option<HeadFault>, AllocError>
     requires whole { BeginsWhole (table_of replies) (begun.old ++ (more.now ++ behind.now)) }
-    requires exact { length begun.old + length more.now ≡ 4 + big_number 4 (begun.old ++ (more.now ++ behind.now)) }
-    ensures ok { IfOk result (λ fault. IsTaken (table_of replies) (begun.old ++ (more.now ++ behind.now)) ready.old.items ready.new.items begun.new (fault_met fault)) }
+    requires exact { length begun.old + length more.now
+        ≡ 4 + big_number 4 (begun.old ++ (more.now ++ behind.now)) }
+    ensures ok { IfOk result (λ fault.
+        IsTaken (table_of replies) (begun.old ++ (more.now ++ behind.now)) ready.old.items
+        ready.new.items begun.new (fault_met fault)) }
     ensures err { OnErr result ((ready.new.items ≡ ready.old.items) × (begun.new ≡ begun.old)) }
 {
     let Cut {

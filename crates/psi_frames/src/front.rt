@@ -36,7 +36,8 @@ pub(crate) enum Front {
 /// What stands at the front of so many bytes, by the first eleven of them.
 #[tactic(auto, unfolding(crate::specs::Frames::front_fault))]
 pub(crate) fn front_of(replies: bool, head: &[u8], count: usize) -> Front
-    ensures { (bytes : List ℕ) → take 11 bytes ≡ head.now → length bytes ≡ count → IsFront (table_of replies) bytes result }
+    ensures { (bytes : List ℕ) → take 11 bytes ≡ head.now → length bytes ≡ count
+        → IsFront (table_of replies) bytes result }
 {
     if head.len() < 4 {
         return Front::Begun;

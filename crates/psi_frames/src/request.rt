@@ -70,7 +70,8 @@ pub fn read_request(alloc: Global, params: &Params, frame: &Frame) -> Result<Req
     requires passed { ArePassed (parameters_of params.now) }
     requires first { put_kind ≤ frame.now.kind }
     requires last { frame.now.kind ≤ repack_kind }
-    ensures request { IfOk result (λ request. request ≡ request_of (parameters_of params.now) frame.now) }
+    ensures request { IfOk result (λ request.
+        request ≡ request_of (parameters_of params.now) frame.now) }
 {
     if frame.kind == PUT {
         Ok(put_request(params, frame))

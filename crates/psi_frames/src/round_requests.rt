@@ -30,10 +30,12 @@ pub fn requests_of_round(
     requires passed { ArePassed (parameters_of params.now) }
     requires each { All (IsFrame request_table) frames.items }
     requires few { asks_before + length frames.items ≤ frames_of_round }
-    ensures requests { IfOk result (λ requests. requests.items ≡ requests_from (parameters_of params.now) asks_before frames.items) }
+    ensures requests { IfOk result (λ requests.
+        requests.items ≡ requests_from (parameters_of params.now) asks_before frames.items) }
     ensures fit { IfOk result (λ requests. All (IsFit (parameters_of params.now)) requests.items) }
     ensures few { IfOk result (λ requests. length requests.items ≤ frames_of_round) }
-    ensures few_asks { IfOk result (λ requests. count_asks requests.items ≤ asks_of_round - asks_before) }
+    ensures few_asks { IfOk result (λ requests.
+        count_asks requests.items ≤ asks_of_round - asks_before) }
 {
     let mut requests = Vec::with_capacity(alloc, frames.len())?;
     let mut asks = asks_before;
@@ -55,7 +57,8 @@ fn add_request(
 ) -> Result<(), AllocError>
     requires passed { ArePassed (parameters_of params.now) }
     requires frame { IsFrame request_table frame.now }
-    ensures { OnOk result (requests.new.items ≡ requests.old.items ++ requests_from (parameters_of params.now) asks (frame.now ∷ [])) }
+    ensures { OnOk result (requests.new.items ≡ requests.old.items
+        ++ requests_from (parameters_of params.now) asks (frame.now ∷ [])) }
 {
     if frame.kind == GO {
         return Ok(());
@@ -74,7 +77,8 @@ fn counted_request(
     requires passed { ArePassed (parameters_of params.now) }
     requires frame { IsFrame request_table frame.now }
     requires request { frame.now.kind ≡ go_kind → ⊥ }
-    ensures { IfOk result (λ request. request ≡ counted asks (request_of (parameters_of params.now) frame.now)) }
+    ensures { IfOk result (λ request.
+        request ≡ counted asks (request_of (parameters_of params.now) frame.now)) }
 {
     let request = read_request(alloc, params, frame)?;
     Ok(counted(asks, request))

@@ -104,7 +104,8 @@ fn a_frame_before_a_cut_one_is_taken(rt: HostRuntime) {
 
 // A frame of the session 1 with the number 1, and a body of so many zeros.
 fn frame(alloc: Global, kind: u8, len: usize) -> Result<Frame, AllocError>
-    ensures { IfOk result (λ f. f ≡ record { kind = kind; session = 1; number = 1; body = replicate len 0 }) }
+    ensures { IfOk result (λ f.
+        f ≡ record { kind = kind; session = 1; number = 1; body = replicate len 0 }) }
 {
     let mut body = Vec::new(alloc);
     body.resize(len, 0)?;

@@ -57,7 +57,8 @@ pub fn append_answer(
     reply: &Reply,
 ) -> Result<(), AllocError>
     requires fits { answer_fits reply.now }
-    ensures appended { OnOk result (text.new.items ≡ text.old.items ++ reply_frame_bytes session number reply.now) }
+    ensures appended { OnOk result (text.new.items ≡ text.old.items
+        ++ reply_frame_bytes session number reply.now) }
 {
     match reply {
         Reply::Added { place } => push_placed(text, ADDED, session, number, *place, 0),
@@ -136,7 +137,8 @@ fn push_placed(
     more: usize,
 ) -> Result<(), AllocError>
     requires { head_bytes + (8 + more) ≤ greatest_length }
-    ensures { OnOk result (text.new.items ≡ text.old.items ++ big_bytes 4 (head_bytes + (8 + more)) ++ big_bytes 1 kind ++ big_bytes 2 session ++ big_bytes 4 number ++ big_bytes 8 place) }
+    ensures { OnOk result (text.new.items ≡ text.old.items ++ big_bytes 4 (head_bytes + (8 + more))
+        ++ big_bytes 1 kind ++ big_bytes 2 session ++ big_bytes 4 number ++ big_bytes 8 place) }
 {
     push_head(text, kind, session, number, 8 + more)?;
     push_u64(text, place)
@@ -151,7 +153,8 @@ fn push_head(
     body: usize,
 ) -> Result<(), AllocError>
     requires { head_bytes + body ≤ greatest_length }
-    ensures { OnOk result (text.new.items ≡ text.old.items ++ big_bytes 4 (head_bytes + body) ++ big_bytes 1 kind ++ big_bytes 2 session ++ big_bytes 4 number) }
+    ensures { OnOk result (text.new.items ≡ text.old.items ++ big_bytes 4 (head_bytes + body)
+        ++ big_bytes 1 kind ++ big_bytes 2 session ++ big_bytes 4 number) }
 {
     push_u32(text, (HEAD_BYTES + body) as u32)?;
     push_u8(text, kind)?;
