@@ -4,7 +4,8 @@ use Rattle.psi_residue.specs.Parameters.{Parameters}
 use Rattle.psi_cli.specs.declared.threaded.Threaded.{Threaded}
 use Rattle.psi_cli.specs.declared.threaded.Threaded.TheVariants as threaded
 use Rattle.psi_cli.specs.Kinds.{Kind, Lanes}
-use Rattle.psi_cli.specs.Runs.{AsksThreads, AsksNoThreads, Runs, RunsPlain, RunsRounds, RunsThreads, Shows}
+use Rattle.psi_cli.specs.Inner.Threads.{AsksThreads, AsksNoThreads, RunsThreads}
+use Rattle.psi_cli.specs.Runs.{Runs, RunsPlain, RunsRounds, Shows}
 use Rattle.psi_cli.specs.Worlds.{World, ends_of}
 
 pub threads_run : (k : Kind) (asked : Threaded) (old new : World) (n : ℕ) → AsksThreads k asked

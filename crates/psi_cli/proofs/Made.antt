@@ -33,7 +33,7 @@ use Rattle.psi_cli.specs.declared.status.Status.TheVariants as status
 use Rattle.psi_cli.specs.AnswerFiles.{IsAnswerFile}
 use Rattle.psi_cli.specs.ItemTexts.{IsItemText, items_of, most_item_text}
 use Rattle.psi_cli.specs.AskAndOpen.{MayBeBadOpening, asking, opening}
-use Rattle.psi_cli.specs.Opening.{HasNoAnswer, HasNoFile, IsRefusedBody, IsUnopened}
+use Rattle.psi_cli.specs.Inner.Opening.{HasNoAnswer, HasNoFile, IsRefusedBody, IsUnopened}
 use Rattle.psi_cli.specs.Outcomes.{AreCrowded, AreFound, HasAnswer, IsAskFrame, IsNoAnswer}
 use Rattle.psi_cli.specs.Readers.{HasReadText, ReadsNothing}
 use Rattle.psi_cli.specs.Reading.{HasNoItems, IsReadWithin}

@@ -6,7 +6,6 @@ pub mod Reading
 pub mod Texts
 pub mod AnswerFiles
 pub mod Outcomes
-pub mod Opening
 pub mod Readers
 pub mod AskAndOpen
 pub mod Kinds
@@ -16,3 +15,4 @@ pub mod Runs
 pub mod QueryAnswers
 pub mod Headline
 pub mod Answered
+pub mod Inner

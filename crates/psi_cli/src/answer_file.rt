@@ -10,10 +10,11 @@ use psi_frames::{Body, Feed, Frame, FrameFault, Reply, read_answer};
 use std::alloc::{AllocError, Global};
 
 /// The reply body of a file with one answer. None comes exactly where the bytes are not one reply frame of kind Answer.
-pub fn answer_body(alloc: Global, file: &[u8]) -> Result<Option<Body>, AllocError>
+pub(crate) fn answer_body(alloc: Global, file: &[u8]) -> Result<Option<Body>, AllocError>
     requires few { length file.now ≤ most_answer }
     ensures found { IfOk result (λ found. IfSome found (IsAnswerFile file.now)) }
-    ensures none { IfOk result (λ found. found ≡ None → (body : List ℕ) → IsAnswerFile file.now body → ⊥) }
+    ensures none { IfOk result (λ found. found ≡ None
+        → (body : List ℕ) → IsAnswerFile file.now body → ⊥) }
 {
     match one_reply(alloc, file)? {
         Some(frame) => Ok(body_of(read_answer(alloc, &frame)?)),
@@ -34,7 +35,8 @@ fn body_of(reply: Option<Reply>) -> Option<Body>
 // The one reply frame that the bytes are. None comes exactly where they are not one.
 fn one_reply(alloc: Global, bytes: &[u8]) -> Result<Option<Frame>, AllocError>
     ensures found { IfOk result (λ found. IfSome found (IsOneReply bytes.now)) }
-    ensures none { IfOk result (λ found. found ≡ None → (frame : Frame) → IsOneReply bytes.now frame → ⊥) }
+    ensures none { IfOk result (λ found. found ≡ None
+        → (frame : Frame) → IsOneReply bytes.now frame → ⊥) }
 {
     let mut feed = Feed::replies(alloc)?;
     match feed.feed(alloc, bytes) {
@@ -60,7 +62,8 @@ fn only_memory(fault: FrameFault) -> Result<(), AllocError>
 fn only_frame(feed: Feed) -> Option<Frame>
     requires { feed.fault ≡ None }
     ensures found { IfSome result (λ frame. (feed.ready ≡ frame ∷ []) × (feed.rest ≡ [])) }
-    ensures none { result ≡ None → (frame : Frame) → feed.ready ≡ frame ∷ [] → feed.rest ≡ [] → ⊥ }
+    ensures none { result ≡ None
+        → (frame : Frame) → feed.ready ≡ frame ∷ [] → feed.rest ≡ [] → ⊥ }
 {
     let mut feed = feed;
     let ended = feed.finish().is_ok();

@@ -33,7 +33,7 @@ pub struct Address {
 
 /// What `ask` comes to: one frame with the query of the items that the source has left, or the crowded items. Nothing is read
 /// where the parameters are refused.
-pub fn ask_items<R: Threads + Sync, S: Source>(
+pub(crate) fn ask_items<R: Threads + Sync, S: Source>(
     rt: &R,
     alloc: Global,
     params: &Params,

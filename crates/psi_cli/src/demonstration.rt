@@ -30,7 +30,7 @@ const BUILDERS: u8 = 1;
 
 /// The command `demo`: makes the script of a number, serves it in memory by so many workers, and writes the summary of the
 /// replies. There are 1 to 8 workers. Where the asked items have no placement, the status is 8 and nothing is written.
-pub fn demo<R: Threads + Wait + Sync, K: Sink, G: Gate>(
+pub(crate) fn demo<R: Threads + Wait + Sync, K: Sink, G: Gate>(
     rt: &R,
     alloc: Global,
     number: u64,
@@ -54,7 +54,8 @@ fn demonstrate<R: Threads + Wait + Sync, G: Gate>(
     gate: &G,
 ) -> Result<Outcome, Status>
     requires workers { (1 ≤ workers) × (workers ≤ 8) }
-    ensures made { IfOk result (λ made. (made.status ≡ Done) × IsDemonstration number workers made.text.items) }
+    ensures made { IfOk result (λ made. (made.status ≡ Done)
+        × IsDemonstration number workers made.text.items) }
     ensures fault { IfErr result (ShowsNothing number) }
 {
     let script = made_script(rt, alloc, number)?;
@@ -113,7 +114,8 @@ fn summed<R: Threads + Sync>(
     number: u64,
     replies: &[u8],
 ) -> Result<Vec<u8>, Status>
-    ensures text { IfOk result (λ text. ForTally replies.now (λ tally. IsSummary number tally text.items)) }
+    ensures text { IfOk result (λ text. ForTally replies.now (λ tally.
+        IsSummary number tally text.items)) }
     ensures fault { IfErr result (λ why. why ≡ NoMemory) }
 {
     match summary(rt, alloc, number, replies) {

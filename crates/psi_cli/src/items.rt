@@ -9,8 +9,9 @@ use std::collections::BTreeSet;
 
 /// The items of a text, a line each: a line ends with the byte 10, and one byte 13 before that is taken off. What stands
 /// behind the last such byte is a line where it is not empty. A line that an earlier one equals is left out.
-pub fn items_of(alloc: Global, text: &[u8]) -> Result<Vec<Vec<u8>>, AllocError>
-    ensures items { IfOk result (λ items. map (λ item. item.items) items.items ≡ items_of text.now) }
+pub(crate) fn items_of(alloc: Global, text: &[u8]) -> Result<Vec<Vec<u8>>, AllocError>
+    ensures items { IfOk result (λ items. map (λ item. item.items) items.items
+        ≡ items_of text.now) }
     ensures few { IfOk result (λ items. length items.items ≤ length text.now) }
 {
     let mut items = Vec::new(alloc);
@@ -28,7 +29,8 @@ pub fn items_of(alloc: Global, text: &[u8]) -> Result<Vec<Vec<u8>>, AllocError>
 
 // Appends an item to a list.
 fn add(alloc: Global, items: &mut Vec<Vec<u8>>, item: &[u8]) -> Result<(), AllocError>
-    ensures added { OnOk result (map (λ item. item.items) items.new.items ≡ map (λ item. item.items) items.old.items ++ item.now ∷ []) }
+    ensures added { OnOk result (map (λ item. item.items) items.new.items
+        ≡ map (λ item. item.items) items.old.items ++ item.now ∷ []) }
     ensures one_more { OnOk result (length items.new.items ≡ length items.old.items + 1) }
 {
     items.push(Vec::from_slice(alloc, item)?)?;

@@ -5,7 +5,7 @@ ghost use Rattle.psi_outside.specs.Names.{file_at};
 ghost use Rattle.psi_cli.specs.AnswerFiles.{IsAnswerFile};
 ghost use Rattle.psi_cli.specs.Outcomes.{HasAnswer, OpenMakes, OpensText};
 ghost use Rattle.psi_cli.specs.AskAndOpen.{opening};
-ghost use Rattle.psi_cli.specs.Opening.{HasNoFile, IsUnopened};
+ghost use Rattle.psi_cli.specs.Inner.Opening.{HasNoFile, IsUnopened};
 ghost use Rattle.psi_cli.specs.Readers.{ReadsNothing};
 ghost use Rattle.psi_cli.specs.Reading.{IsEnded};
 ghost use Rattle.psi_cli.specs.Worlds.{given};
@@ -27,7 +27,7 @@ const MOST_ANSWER: u64 = 5242915;
 
 /// What `open` comes to: the items that the source has left and that the file's answer shows, or the crowded items. The
 /// items are read before the file; the answer's body is looked at last. Nothing is read where the parameters are refused.
-pub fn open_file<R: Threads + Sync, S: Source, F: Files>(
+pub(crate) fn open_file<R: Threads + Sync, S: Source, F: Files>(
     rt: &R,
     alloc: Global,
     params: &Params,
@@ -43,7 +43,8 @@ pub fn open_file<R: Threads + Sync, S: Source, F: Files>(
     ensures ended { OnOk result (IsEnded (S.told input.old) (S.told input.new)) }
     ensures no_read_failed { OnOk result ((S.told input.new).faults ≡ (S.told input.old).faults) }
     ensures no_file_failed { OnOk result ((F.told files.new).faults ≡ (F.told files.old).faults) }
-    ensures fault { IfErr result (ReadsNothing (opening (parameters_of params.now) seed.now name.now)
+    ensures fault { IfErr result (ReadsNothing
+        (opening (parameters_of params.now) seed.now name.now)
         (given (S.told input.old) (F.told files.old))
         (given (S.told input.new) (F.told files.new))) }
 {
@@ -70,7 +71,8 @@ fn open_passed<R: Threads + Sync, S: Source, F: Files>(
     ensures ended { OnOk result (IsEnded (S.told input.old) (S.told input.new)) }
     ensures no_read_failed { OnOk result ((S.told input.new).faults ≡ (S.told input.old).faults) }
     ensures no_file_failed { OnOk result ((F.told files.new).faults ≡ (F.told files.old).faults) }
-    ensures fault { IfErr result (ReadsNothing (opening (parameters_of params.now) seed.now name.now)
+    ensures fault { IfErr result (ReadsNothing
+        (opening (parameters_of params.now) seed.now name.now)
         (given (S.told input.old) (F.told files.old))
         (given (S.told input.new) (F.told files.new))) }
 {

@@ -19,7 +19,7 @@ const CIPHERTEXT_BYTES: u128 = 81920;
 const HEADER_BYTES: u128 = 8;
 
 /// The parameters that the words of a command give.
-pub fn word_parameters(
+pub(crate) fn word_parameters(
     rows: u8,
     capacity: u16,
     units: u8,
@@ -43,8 +43,9 @@ pub fn word_parameters(
 }
 
 /// What `params` comes to: the figures of parameters that pass, or why they are refused.
-pub fn judge(alloc: Global, params: &Params) -> Result<Outcome, Status>
-    ensures made { IfOk result (λ outcome. ParamsMake (parameters_of params.now) outcome.status outcome.text.items) }
+pub(crate) fn judge(alloc: Global, params: &Params) -> Result<Outcome, Status>
+    ensures made { IfOk result (λ outcome.
+        ParamsMake (parameters_of params.now) outcome.status outcome.text.items) }
     ensures fault { IfErr result (λ why. why ≡ NoMemory) }
 {
     match check(params) {
@@ -61,7 +62,8 @@ pub fn judge(alloc: Global, params: &Params) -> Result<Outcome, Status>
 
 // The figures of parameters, with their ledger.
 fn figures(alloc: Global, params: &Params, ledger: &Ledger) -> Result<String, AllocError>
-    ensures { IfOk result (λ text. string_bytes text ≡ figures_text (parameters_of params.now) ledger.now) }
+    ensures { IfOk result (λ text. string_bytes text
+        ≡ figures_text (parameters_of params.now) ledger.now) }
 {
     let ciphertexts = u128::from(params.rows) * u128::from(params.capacity);
     let mut text = String::new(alloc);

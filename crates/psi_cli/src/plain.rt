@@ -158,7 +158,7 @@ fn help(alloc: Global) -> Result<Outcome, Status>
 }
 
 /// Writes what was made, if anything was, and ends with its status.
-pub fn finish<K: Sink>(made: Result<Outcome, Status>, output: &mut K) -> Status
+pub(crate) fn finish<K: Sink>(made: Result<Outcome, Status>, output: &mut K) -> Status
     ensures { Finishes made (K.told output.old) (K.told output.new) result }
 {
     match made {

@@ -18,13 +18,14 @@ const MOST_ITEM: usize = 255;
 
 /// The items of the text that a source has left. The text has at most 2^20 bytes and each item at most 255, else it is a
 /// bad input. A text that is too long is refused with the piece that goes past its limit, and not read further.
-pub fn read_items<S: Source>(alloc: Global, input: &mut S) -> Result<Vec<Vec<u8>>, Status>
+pub(crate) fn read_items<S: Source>(alloc: Global, input: &mut S) -> Result<Vec<Vec<u8>>, Status>
     ensures items { IfOk result (λ items. IfSome (S.told input.old).left (λ bytes.
         map (λ item. item.items) items.items ≡ items_of bytes)) }
     ensures text { OnOk result (IfSome (S.told input.old).left IsItemText) }
     ensures few { IfOk result (λ items. length items.items < 2 ^ 32) }
     ensures ended { OnOk result (IsEnded (S.told input.old) (S.told input.new)) }
-    ensures within { OnOk result (IsReadWithin most_item_text (S.told input.old) (S.told input.new)) }
+    ensures within { OnOk result (IsReadWithin most_item_text (S.told input.old)
+        (S.told input.new)) }
     ensures no_read_failed { OnOk result ((S.told input.new).faults ≡ (S.told input.old).faults) }
     ensures fault { IfErr result (HasNoItems (S.told input.old) (S.told input.new)) }
 {
@@ -39,7 +40,8 @@ pub fn read_items<S: Source>(alloc: Global, input: &mut S) -> Result<Vec<Vec<u8>
 // The items of a text, if each has at most 255 bytes.
 fn short_items(alloc: Global, text: &[u8]) -> Result<Vec<Vec<u8>>, Status>
     requires few { length text.now ≤ 2 ^ 20 }
-    ensures items { IfOk result (λ items. map (λ item. item.items) items.items ≡ items_of text.now) }
+    ensures items { IfOk result (λ items. map (λ item. item.items) items.items
+        ≡ items_of text.now) }
     ensures text { OnOk result (IsItemText text.now) }
     ensures few { IfOk result (λ items. length items.items < 2 ^ 32) }
     ensures fault { IfErr result (IsNoItemText text.now) }
@@ -60,7 +62,7 @@ fn are_short(items: &[Vec<u8>]) -> bool
 }
 
 /// The tags of items.
-pub fn tags_of(alloc: Global, items: &[Vec<u8>]) -> Result<Vec<Tag>, AllocError>
+pub(crate) fn tags_of(alloc: Global, items: &[Vec<u8>]) -> Result<Vec<Tag>, AllocError>
     ensures { IfOk result (λ tags. tags.items ≡ map (λ item. tag_of item.items) items.now) }
 {
     items.iter().map(|item| tag_of(item)).collect(alloc)

@@ -12,7 +12,8 @@ ghost use Rattle.psi_cli.specs.Headline.{AnswersInput, AnswersOnOneLane, Headlin
 ghost use Rattle.psi_cli.specs.Kinds.{Lanes, is_alone, kind_by};
 ghost use Rattle.psi_cli.specs.Outcomes.{AreFigures, IsRefusal};
 ghost use Rattle.psi_cli.specs.Reading.{IsEnded, IsTested};
-ghost use Rattle.psi_cli.specs.Runs.{GivesNone, IsAllowed, Runs, RunsRounds, RunsThreads, Shows};
+ghost use Rattle.psi_cli.specs.Inner.Threads.{IsAllowed, RunsThreads};
+ghost use Rattle.psi_cli.specs.Runs.{GivesNone, Runs, RunsRounds, Shows};
 ghost use Rattle.psi_cli.specs.Statuses.{Ended, IsEmptyNumber, IsOrFails, IsReadWhole, IsRefusedOrFails, IsStatus, IsUnreadStatus};
 ghost use Rattle.psi_cli.specs.Worlds.{IsFlushedSo, NoReadFailed, NothingRead, ReadFailed, given, world};
 
@@ -29,7 +30,8 @@ use std::sync::Wait;
 use std::thread::Threads;
 
 /// All that the program does on the words of its command line. The words are looked at first, then the parameters, and only then
-/// is anything read; `open` reads its items before its file. The result is the number that the program ends with:
+/// is anything read; `open` reads its items before its file, and a text of items that is too long is refused with the piece that
+/// goes past its limit. `params`, `help` and `demo` read nothing. The result is the number that the program ends with:
 ///
 /// | Status | Comes | What was written |
 /// |---|---|---|
@@ -62,12 +64,15 @@ pub fn psi_run<R: Threads + Wait + Sync, S: Source, F: Files, K: Sink, G: Gate>(
         (world (S.told input.new) (F.told files.new) (K.told output.new)) result }
     ensures words { (Ended Words result → GivesNone (kind_by words.now))
         × (GivesNone (kind_by words.now) → Ended Words result) }
-    ensures headline { Ended Done result → IfRounds (kind_by words.now) (λ p alone. Headline p alone
+    ensures headline { Ended Done result
+        → IfRounds (kind_by words.now) (λ p alone. Headline p alone
         (world (S.told input.old) (F.told files.old) (K.told output.old))
         (world (S.told input.new) (F.told files.new) (K.told output.new))) }
-    ensures answered { Ended Done result → IfRounds (kind_by words.now) (λ p alone. AnswersInput p alone
+    ensures answered { Ended Done result
+        → IfRounds (kind_by words.now) (λ p alone. AnswersInput p alone
         (S.told input.old) (K.told output.old) (K.told output.new)) }
-    ensures one_lane { Ended Done result → IfOneLane (kind_by words.now) (λ p. AnswersOnOneLane p
+    ensures one_lane { Ended Done result
+        → IfOneLane (kind_by words.now) (λ p. AnswersOnOneLane p
         (S.told input.old) (K.told output.old) (K.told output.new)) }
     ensures served { IfRounds (kind_by words.now) (λ p alone. RunsRounds p alone
         (ends (S.told input.old) (K.told output.old))
@@ -104,20 +109,26 @@ pub fn psi_run<R: Threads + Wait + Sync, S: Source, F: Files, K: Sink, G: Gate>(
     ensures crowded { Ended Crowded result
         → IfCrowded (kind_by words.now) (given (S.told input.old) (F.told files.old))
         (Appends (K.told output.old).written (K.told output.new).written) }
-    ensures crowded_only { IsToldCrowded (kind_by words.now) (given (S.told input.old) (F.told files.old))
+    ensures crowded_only { IsToldCrowded (kind_by words.now)
+        (given (S.told input.old) (F.told files.old))
         → IsOrFails Crowded result }
     ensures read { Ended ReadFault result → ReadFailed
-        (given (S.told input.old) (F.told files.old)) (given (S.told input.new) (F.told files.new)) }
-    ensures write { Ended WriteFault result → Rose (K.told output.old).faults (K.told output.new).faults }
+        (given (S.told input.old) (F.told files.old))
+        (given (S.told input.new) (F.told files.new)) }
+    ensures write { Ended WriteFault result
+        → Rose (K.told output.old).faults (K.told output.new).faults }
     ensures flushed { Ended Done result → IsFlushedSo (K.told output.old) (K.told output.new) }
     ensures no_write_failed { Ended Done result
         → (K.told output.new).faults ≡ (K.told output.old).faults }
     ensures no_read_failed { IsReadWhole result → NoReadFailed
-        (given (S.told input.old) (F.told files.old)) (given (S.told input.new) (F.told files.new)) }
+        (given (S.told input.old) (F.told files.old))
+        (given (S.told input.new) (F.told files.new)) }
     ensures unread { IsUnreadStatus result → NothingRead
-        (given (S.told input.old) (F.told files.old)) (given (S.told input.new) (F.told files.new)) }
+        (given (S.told input.old) (F.told files.old))
+        (given (S.told input.new) (F.told files.new)) }
     ensures no_reading { IfNoReading (kind_by words.now) (NothingRead
-        (given (S.told input.old) (F.told files.old)) (given (S.told input.new) (F.told files.new))) }
+        (given (S.told input.old) (F.told files.old))
+        (given (S.told input.new) (F.told files.new))) }
     ensures unwritten { IsEmptyNumber result → IfNoRounds (kind_by words.now)
         ((K.told output.new).written ≡ (K.told output.old).written) }
 {

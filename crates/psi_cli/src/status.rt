@@ -28,7 +28,7 @@ pub enum Status {
 
 impl Status {
     /// The number that the program ends with.
-    pub fn number(self) -> u8
+    pub(crate) fn number(self) -> u8
         ensures { result ≡ status_number self }
     {
         match self {

@@ -1,6 +1,6 @@
 //! What words ask of several threads.
 ghost use Rattle.std.specs.Prelude.{IfSome, IsNone};
-ghost use Rattle.psi_cli.specs.Runs.{AsksNoThreads, AsksThreads, IsAllowed};
+ghost use Rattle.psi_cli.specs.Inner.Threads.{AsksNoThreads, AsksThreads, IsAllowed};
 ghost use Rattle.psi_cli.specs.Kinds.{kind_by};
 
 use crate::params::word_parameters;
@@ -29,7 +29,7 @@ pub enum Threaded {
 }
 
 /// What the words ask of several threads, if they ask for `serve` or `demo`. There are 1 to 8 workers and at most 4 builders.
-pub fn threaded_by(alloc: Global, words: &[String]) -> Option<Threaded>
+pub(crate) fn threaded_by(alloc: Global, words: &[String]) -> Option<Threaded>
     ensures asked { IfSome result (AsksThreads (kind_by words.now)) }
     ensures allowed { IfSome result IsAllowed }
     ensures other { IsNone result → AsksNoThreads (kind_by words.now) }

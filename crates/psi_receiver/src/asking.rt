@@ -33,9 +33,12 @@ pub fn ask<R: Threads + Sync>(
 ) -> Result<Vec<u8>, AskFault>
     requires passed { ArePassed (parameters_of params.now) }
     requires numbered { length items.now < 2 ^ 32 }
-    ensures query { IfOk result (λ body. IsQueryOf (parameters_of params.now) seed.now (map (λ item. tag_of item.items) items.now) body.items) }
+    ensures query { IfOk result (λ body. IsQueryOf (parameters_of params.now) seed.now
+        (map (λ item. tag_of item.items) items.now) body.items) }
     ensures short { OnOk result (position (λ item. is_long item.items) items.now ≡ None) }
-    ensures fault { IfErr result (IsAskFault params.now.rows (position (λ item. is_long item.items) items.now) (map (λ item. tag_of item.items) items.now)) }
+    ensures fault { IfErr result (IsAskFault params.now.rows
+        (position (λ item. is_long item.items) items.now)
+        (map (λ item. tag_of item.items) items.now)) }
 {
     if let Some(item) = first_long(items) {
         return Err(AskFault::TooLong { item });
@@ -54,7 +57,8 @@ pub fn ask_tags<R: Threads + Sync>(
 ) -> Result<Vec<u8>, AskFault>
     requires passed { ArePassed (parameters_of params.now) }
     requires numbered { length tags.now < 2 ^ 32 }
-    ensures query { IfOk result (λ body. IsQueryOf (parameters_of params.now) seed.now tags.now body.items) }
+    ensures query { IfOk result (λ body. IsQueryOf
+        (parameters_of params.now) seed.now tags.now body.items) }
     ensures fault { IfErr result (IsAskFault params.now.rows None tags.now) }
 {
     let placed = place_tags(alloc, tags, params.rows)?;

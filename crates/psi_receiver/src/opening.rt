@@ -40,10 +40,14 @@ pub fn open<R: Threads + Sync>(
 ) -> Result<Vec<Found>, OpenFault>
     requires passed { ArePassed (parameters_of params.now) }
     requires numbered { length items.now < 2 ^ 32 }
-    ensures opened { IfOk result (λ found. AreOpened (parameters_of params.now) seed.now (map (λ item. tag_of item.items) items.now) reply.now found.items) }
+    ensures opened { IfOk result (λ found. AreOpened (parameters_of params.now) seed.now
+        (map (λ item. tag_of item.items) items.now) reply.now found.items) }
     ensures short { OnOk result (position (λ item. is_long item.items) items.now ≡ None) }
     ensures reply { OnOk result (IsReply (parameters_of params.now) reply.now) }
-    ensures fault { IfErr result (IsOpenFault params.now.rows (position (λ item. is_long item.items) items.now) (map (λ item. tag_of item.items) items.now) (reply_fault (parameters_of params.now) reply.now)) }
+    ensures fault { IfErr result (IsOpenFault params.now.rows
+        (position (λ item. is_long item.items) items.now)
+        (map (λ item. tag_of item.items) items.now)
+        (reply_fault (parameters_of params.now) reply.now)) }
 {
     if let Some(item) = first_long(items) {
         return Err(OpenFault::TooLong { item });
@@ -63,9 +67,11 @@ pub fn open_tags<R: Threads + Sync>(
 ) -> Result<Vec<Found>, OpenFault>
     requires passed { ArePassed (parameters_of params.now) }
     requires numbered { length tags.now < 2 ^ 32 }
-    ensures opened { IfOk result (λ found. AreOpened (parameters_of params.now) seed.now tags.now reply.now found.items) }
+    ensures opened { IfOk result (λ found. AreOpened
+        (parameters_of params.now) seed.now tags.now reply.now found.items) }
     ensures reply { OnOk result (IsReply (parameters_of params.now) reply.now) }
-    ensures fault { IfErr result (IsOpenFault params.now.rows None tags.now (reply_fault (parameters_of params.now) reply.now)) }
+    ensures fault { IfErr result (IsOpenFault params.now.rows None tags.now
+        (reply_fault (parameters_of params.now) reply.now)) }
 {
     let placed = place_tags(alloc, tags, params.rows)?;
     let counts = read_reply_head(alloc, params, reply)?;
@@ -110,13 +116,19 @@ fn open_ciphertexts<R: Threads + Sync>(
 ) -> Result<Vec<Plane>, CodecFault>
     requires passed { ArePassed (parameters_of params.now) }
     requires head { IsReplyHead (parameters_of params.now) reply.now }
-    requires number { number ≡ reply_planes (parameters_of params.now) (reply_counts (parameters_of params.now) reply.now) }
-    ensures opened { IfOk result (λ planes. planes.items ≡ map (opened_slots key.now) (reply_ciphertexts (parameters_of params.now) reply.now)) }
+    requires number { number ≡ reply_planes (parameters_of params.now)
+        (reply_counts (parameters_of params.now) reply.now) }
+    ensures opened { IfOk result (λ planes. planes.items ≡ map (opened_slots key.now)
+        (reply_ciphertexts (parameters_of params.now) reply.now)) }
     ensures reply { OnOk result (IsReply (parameters_of params.now) reply.now) }
 {
     let open = |c: usize| -> Result<Plane, CodecFault>
-        requires { (c < reply_planes (parameters_of params.now) (reply_counts (parameters_of params.now) reply.now)) × ArePassed (parameters_of params.now) × IsReplyHead (parameters_of params.now) reply.now }
-        ensures { IfOk result (IsOpenedPlane (parameters_of params.entry.now) key.entry.now reply.entry.now c) }
+        requires { (c < reply_planes (parameters_of params.now)
+            (reply_counts (parameters_of params.now) reply.now))
+            × ArePassed (parameters_of params.now)
+            × IsReplyHead (parameters_of params.now) reply.now }
+        ensures { IfOk result (IsOpenedPlane
+            (parameters_of params.entry.now) key.entry.now reply.entry.now c) }
     { open_ciphertext(alloc, params, key, reply, c) };
     let planes = map_in_turns(rt, alloc, number, &open)?;
     values_of(alloc, planes)
@@ -132,7 +144,8 @@ fn open_ciphertext(
 ) -> Result<Plane, CodecFault>
     requires passed { ArePassed (parameters_of params.now) }
     requires head { IsReplyHead (parameters_of params.now) reply.now }
-    requires within { c < reply_planes (parameters_of params.now) (reply_counts (parameters_of params.now) reply.now) }
+    requires within { c < reply_planes (parameters_of params.now)
+        (reply_counts (parameters_of params.now) reply.now) }
     ensures { IfOk result (IsOpenedPlane (parameters_of params.now) key.now reply.now c) }
 {
     let ct = read_reply_ciphertext(alloc, params, reply, c)?;
@@ -150,15 +163,23 @@ fn open_placed<R: Threads + Sync>(
 ) -> Result<Vec<Found>, AllocError>
     requires few { params.now.units ≤ 4 }
     requires within { All (λ x. x.position < bins_of_row * length counts.now) placed.now }
-    requires whole { length planes.now ≡ planes_of_bundle (parameters_of params.now) * sum counts.now }
-    ensures { IfOk result (λ found. found.items ≡ opened (record { parameters = parameters_of params.now; counts = counts.now; planes = planes.now }) placed.now) }
+    requires whole { length planes.now
+        ≡ planes_of_bundle (parameters_of params.now) * sum counts.now }
+    ensures { IfOk result (λ found. found.items ≡ opened
+        (record { parameters = parameters_of params.now; counts = counts.now; planes = planes.now })
+        placed.now) }
 {
     let lists = placed
         .par_iter()
         .map(
             |x: &Placed| -> Result<Vec<Found>, AllocError>
-                requires { (x.now.position < bins_of_row * length counts.now) × (params.now.units ≤ 4) × (length planes.now ≡ planes_of_bundle (parameters_of params.now) * sum counts.now) }
-                ensures { IfOk result (λ found. found.items ≡ opened_item (record { parameters = parameters_of params.entry.now; counts = counts.entry.now; planes = planes.entry.now }) x.now) }
+                requires { (x.now.position < bins_of_row * length counts.now) ×
+                    (params.now.units ≤ 4) ×
+                    (length planes.now
+                    ≡ planes_of_bundle (parameters_of params.now) * sum counts.now) }
+                ensures { IfOk result (λ found. found.items ≡ opened_item
+                    (record { parameters = parameters_of params.entry.now;
+                    counts = counts.entry.now; planes = planes.entry.now }) x.now) }
             { open_item(alloc, params, counts, planes, x) },
         )
         .collect::<Result<Vec<Vec<Found>>, AllocError>>(rt, alloc)??;
@@ -187,8 +208,11 @@ fn open_item(
 ) -> Result<Vec<Found>, AllocError>
     requires few { params.now.units ≤ 4 }
     requires within { x.now.position < bins_of_row * length counts.now }
-    requires whole { length planes.now ≡ planes_of_bundle (parameters_of params.now) * sum counts.now }
-    ensures { IfOk result (λ found. found.items ≡ opened_item (record { parameters = parameters_of params.now; counts = counts.now; planes = planes.now }) x.now) }
+    requires whole { length planes.now
+        ≡ planes_of_bundle (parameters_of params.now) * sum counts.now }
+    ensures { IfOk result (λ found. found.items ≡ opened_item
+        (record { parameters = parameters_of params.now; counts = counts.now; planes = planes.now })
+        x.now) }
 {
     let mut found = Vec::new(alloc);
     let row = usize::from(x.position) / BINS;
@@ -236,7 +260,8 @@ fn bundles_before(counts: &[u16], row: usize) -> usize
 fn label(alloc: Global, units: &[Plane], bin: usize) -> Result<Label, AllocError>
     requires bin { bin < bins_of_row }
     requires few { length units.now ≤ 4 }
-    ensures { IfOk result (λ label. label ≡ flat_map (λ unit. flat_map (λ part. bytes_high_first 2 (value_in unit bin part % 65536)) parts) units.now) }
+    ensures { IfOk result (λ label. label ≡ flat_map (λ unit.
+        flat_map (λ part. bytes_high_first 2 (value_in unit bin part % 65536)) parts) units.now) }
 {
     let mut bytes = Vec::new(alloc);
     for unit in units {
@@ -251,7 +276,8 @@ fn label(alloc: Global, units: &[Plane], bin: usize) -> Result<Label, AllocError
 // Appends the ten bytes of a label unit: 16 bits from each part, the higher byte first.
 fn append_unit(bytes: &mut Vec<u8>, plane: &Plane, bin: usize) -> Result<(), AllocError>
     requires { bin < bins_of_row }
-    ensures { OnOk result (bytes.new.items ≡ bytes.old.items ++ flat_map (λ part. bytes_high_first 2 (value_in plane.now bin part % 65536)) parts) }
+    ensures { OnOk result (bytes.new.items ≡ bytes.old.items
+        ++ flat_map (λ part. bytes_high_first 2 (value_in plane.now bin part % 65536)) parts) }
 {
     for part in 0..PARTS {
         append_number(bytes, (plane.value(PARTS * bin + part) % 65536) as u16)?;

@@ -28,7 +28,8 @@ pub fn place_tags(alloc: Global, tags: &[Tag], rows: u8) -> Result<Vec<Placed>, 
     requires few { rows ≤ 4 }
     requires numbered { length tags.now < 2 ^ 32 }
     ensures placed { IfOk result (λ placed_tags. ArePlaced rows tags.now placed_tags.items) }
-    ensures within { IfOk result (λ placed_tags. All (λ x. x.position < bins_of_row * rows) placed_tags.items) }
+    ensures within { IfOk result (λ placed_tags.
+        All (λ x. x.position < bins_of_row * rows) placed_tags.items) }
     ensures crowded { IfErr result (ForCrowded (AreTooMany rows tags.now)) }
 {
     let sets = position_sets(alloc, tags, rows)?;

@@ -61,7 +61,8 @@ impl Plane {
 
 // Of each bin whether its five slots are 0.
 fn zero_bins(alloc: Global, slots: &Slots) -> Result<Vec<bool>, AllocError>
-    ensures { IfOk result (λ zeros. zeros.items ≡ map (is_zero_in slots.now) (range_with_len 0 bins_of_row)) }
+    ensures { IfOk result (λ zeros. zeros.items ≡ map (is_zero_in slots.now)
+        (range_with_len 0 bins_of_row)) }
 {
     let mut zeros = Vec::with_capacity(alloc, BINS)?;
     for bin in 0..BINS {

@@ -35,7 +35,8 @@ pub fn encrypt_query<R: Threads + Sync>(
     placed: &[Placed],
 ) -> Result<Vec<Vec<u8>>, AllocError>
     requires { ArePassed (parameters_of params.now) }
-    ensures { IfOk result (λ pieces. flat_map (λ piece. piece.items) pieces.items ≡ ciphertexts_bytes (encrypted_powers (parameters_of params.now) seed.now placed.now)) }
+    ensures { IfOk result (λ pieces. flat_map (λ piece. piece.items) pieces.items
+        ≡ ciphertexts_bytes (encrypted_powers (parameters_of params.now) seed.now placed.now)) }
 {
     let key = SecretKey::of(alloc, seed)?;
     let values = values_of_rows(alloc, placed, params.rows)?;
@@ -54,12 +55,18 @@ fn encrypt_powers<R: Threads + Sync>(
     requires some { 1 ≤ capacity }
     requires few { length values.now * capacity ≤ 2400 }
     requires key_of_this_seed { key.now ≡ key_of_seed seed.now }
-    ensures { IfOk result (λ pieces. map (λ piece. piece.items) pieces.items ≡ map (λ c. ciphertext_bytes (encrypted seed.now c (packed_list (powers_of (slice_index_or values.now (c / capacity) []) (c % capacity + 1))))) (range_with_len 0 (length values.now * capacity))) }
+    ensures { IfOk result (λ pieces. map (λ piece. piece.items) pieces.items
+        ≡ map (λ c. ciphertext_bytes (encrypted seed.now c
+        (packed_list (powers_of (slice_index_or values.now (c / capacity) [])
+        (c % capacity + 1))))) (range_with_len 0 (length values.now * capacity))) }
 {
     let number = values.len() * capacity as usize;
     let power = |c: usize| -> Result<Vec<u8>, AllocError>
-        requires { (c < length values.now * capacity) × (length values.now * capacity ≤ 2400) × (key.now ≡ key_of_seed seed.now) }
-        ensures { IfOk result (λ bytes. bytes.items ≡ ciphertext_bytes (encrypted seed.entry.now c (packed_list (powers_of (slice_index_or values.entry.now (c / capacity) []) (c % capacity + 1))))) }
+        requires { (c < length values.now * capacity) × (length values.now * capacity ≤ 2400) ×
+            (key.now ≡ key_of_seed seed.now) }
+        ensures { IfOk result (λ bytes. bytes.items ≡ ciphertext_bytes
+            (encrypted seed.entry.now c (packed_list
+            (powers_of (slice_index_or values.entry.now (c / capacity) []) (c % capacity + 1))))) }
     {
         let c = c as u32;
         let row = (c / capacity) as usize;
@@ -80,7 +87,8 @@ fn encrypt_power(
 ) -> Result<Vec<u8>, AllocError>
     requires key_of_this_seed { key.now ≡ key_of_seed seed.now }
     requires numbered { c < 2400 }
-    ensures { IfOk result (λ bytes. bytes.items ≡ ciphertext_bytes (encrypted seed.now c (packed_list (powers_of values.now exponent)))) }
+    ensures { IfOk result (λ bytes. bytes.items ≡ ciphertext_bytes
+        (encrypted seed.now c (packed_list (powers_of values.now exponent)))) }
 {
     let mut powers = [0; N];
     write_powers(values, exponent, &mut powers);
@@ -103,7 +111,8 @@ fn write_powers(values: &Slots, exponent: u32, out: &mut [u32])
 
 // The slot values of each row.
 fn values_of_rows(alloc: Global, placed: &[Placed], rows: u8) -> Result<Vec<Slots>, AllocError>
-    ensures { IfOk result (λ values. values.items ≡ map (row_values placed.now) (range_with_len 0 rows)) }
+    ensures { IfOk result (λ values. values.items ≡ map (row_values placed.now)
+        (range_with_len 0 rows)) }
 {
     let mut values = Vec::new(alloc);
     for row in 0..usize::from(rows) {
@@ -132,7 +141,8 @@ fn write_tag(values: &mut Slots, bin: usize, tag: &Tag)
     requires bin { bin < bins_of_row }
     requires whole { length values.old ≡ ring_degree }
     ensures size { length values.new ≡ length values.old }
-    ensures written { (slot : ℕ) → slice_index values.new slot ≡ (if slot / 5 == bin then slot_value tag.now (slot % 5) else slice_index values.old slot) }
+    ensures written { (slot : ℕ) → slice_index values.new slot ≡
+        (if slot / 5 == bin then slot_value tag.now (slot % 5) else slice_index values.old slot) }
 {
     let own = slots(tag);
     for part in 0..PARTS {

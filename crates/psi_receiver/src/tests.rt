@@ -8,7 +8,7 @@ use bfv_core::{Ciphertext, SecretKey, encrypt};
 use item_slots::{tag_from, tag_of};
 use noise_ledger::{Params, check};
 use psi_residue::N;
-use query_codec::{read_query, write_reply};
+use query_codec::{CodecFault, read_query, write_query, write_reply};
 use std::alloc::{AllocError, Global};
 
 // The tag with the slot values 1, 2, 3, 4 and 5, and three times the number 7: its only position is bin 7 of row 0.
@@ -140,11 +140,65 @@ fn items_of_256_bytes(rt: HostRuntime) {
     }
 }
 
+// A residue of the first modulus and one of the second, by their numbers, and each modulus as five bytes.
+const AT_MODULUS: [(usize, [u8; 5]); 2] = [
+    (0, [0x0f, 0xff, 0xfe, 0xe0, 0x01]),
+    (4097, [0x0f, 0xff, 0xfc, 0x40, 0x01]),
+];
+
+// Bytes with five others at a place.
+fn with_five(
+    alloc: Global,
+    bytes: &[u8],
+    at: usize,
+    five: &[u8; 5],
+) -> Result<Vec<u8>, AllocError>
+    requires { at < 2 ^ 20 }
+{
+    let mut changed = bytes.get(..at).unwrap_or(&[]).to_vec(alloc)?;
+    changed.extend_from_slice(five)?;
+    changed.extend_from_slice(bytes.get(at + 5..).unwrap_or(&[]))?;
+    Ok(changed)
+}
+
+// Behind the 8 bytes of the parameters and the 2 of the count, the residues have five bytes each.
 #[test]
-fn laws_are_called(_rt: HostRuntime) {
+fn residues_at_their_moduli_are_told_by_number(rt: HostRuntime) {
+    let alloc = rt.alloc();
+    let params = Params::of(1, 1, 0);
+    assert!(rt; check(&params).is_ok());
+    let ct = encrypted(alloc, &zeros_but(0), false).expect(&rt, "memory");
+    let reply = write_reply(alloc, &params, &[1], &[ct]).expect(&rt, "memory");
+    for (number, modulus) in AT_MODULUS {
+        assert!(rt; number < 16384);
+        let body = with_five(alloc, &reply, 10 + 5 * number, &modulus).expect(&rt, "memory");
+        match open_tags(&rt, alloc, &params, &SEED, &[tag_from(TAG)], &body) {
+            Err(OpenFault::Codec(CodecFault::Residue { index })) => {
+                assert!(rt; index == number as u64);
+            }
+            _ => panic!(rt; "a residue at its modulus"),
+        }
+    }
+}
+
+// The laws have no effect. What one of them says, for one tag: the ciphertexts that are read from its query make up the query.
+#[test]
+fn laws_are_called(rt: HostRuntime) {
     items_are_found();
     opened_is_found();
     members_are_found();
     found_take_slots();
     tags_are_bytes();
+    let alloc = rt.alloc();
+    let params = Params::of(1, 2, 0);
+    assert!(rt; check(&params).is_ok());
+    let query = ask_tags(&rt, alloc, &params, &SEED, &[tag_from(TAG)])
+        .ok()
+        .expect(&rt, "memory");
+    let cts = read_query(alloc, &params, &query)
+        .ok()
+        .expect(&rt, "a query");
+    assert!(rt; cts.len() == 2);
+    let written = write_query(alloc, &params, &cts).expect(&rt, "memory");
+    assert!(rt; written == query);
 }

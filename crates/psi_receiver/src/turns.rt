@@ -51,7 +51,8 @@ fn in_threads<R: Threads + Sync, X: Send + Drop, F: Fn(usize) -> X + Sync>(
     f: &F,
 ) -> Result<Vec<Vec<Done<X>>>, AllocError>
     requires { (i : ℕ) → i < count → F.pre f.now i }
-    ensures { IfOk result (λ parts. All (λ part. All (λ done. IsWork F.Fn f.now count done.number done.value) part.items) parts.items) }
+    ensures { IfOk result (λ parts. All (λ part.
+        All (λ done. IsWork F.Fn f.now count done.number done.value) part.items) parts.items) }
 {
     if threads < 2 {
         let mut parts = Vec::new(alloc);
@@ -60,11 +61,14 @@ fn in_threads<R: Threads + Sync, X: Send + Drop, F: Fn(usize) -> X + Sync>(
     }
     let one = move || -> Result<Vec<Done<X>>, AllocError>
         requires { IsSync F.row × IsSend X.row × ((i : ℕ) → i < count → F.pre f.now i) }
-        ensures { IfOk result (λ part. All (λ done. IsWork F.Fn f.entry.now count done.number done.value) part.items) }
+        ensures { IfOk result (λ part. All (λ done.
+            IsWork F.Fn f.entry.now count done.number done.value) part.items) }
     { take_turns(alloc, next, count, f) };
     let others = move || -> Result<Vec<Vec<Done<X>>>, AllocError>
-        requires { IsSync R.row × IsSync F.row × IsSend X.row × (2 ≤ threads) × ((i : ℕ) → i < count → F.pre f.now i) }
-        ensures { IfOk result (λ parts. All (λ part. All (λ done. IsWork F.Fn f.entry.now count done.number done.value) part.items) parts.items) }
+        requires { IsSync R.row × IsSync F.row × IsSend X.row × (2 ≤ threads) ×
+            ((i : ℕ) → i < count → F.pre f.now i) }
+        ensures { IfOk result (λ parts. All (λ part. All (λ done.
+            IsWork F.Fn f.entry.now count done.number done.value) part.items) parts.items) }
     { in_threads(rt, alloc, threads - 1, next, count, f) };
     let (part, parts) = join(rt, one, others);
     let mut parts = parts?;
@@ -80,7 +84,8 @@ fn take_turns<X: Drop, F: Fn(usize) -> X>(
     f: &F,
 ) -> Result<Vec<Done<X>>, AllocError>
     requires { (i : ℕ) → i < count → F.pre f.now i }
-    ensures { IfOk result (λ part. All (λ done. IsWork F.Fn f.now count done.number done.value) part.items) }
+    ensures { IfOk result (λ part. All (λ done.
+        IsWork F.Fn f.now count done.number done.value) part.items) }
 {
     let mut part = Vec::new(alloc);
     for _ in 0..count {
@@ -104,7 +109,8 @@ fn in_order<X: Drop, F: Fn(usize) -> X>(
     f: &F,
 ) -> Result<Vec<X>, AllocError>
     requires callable { (i : ℕ) → i < count → F.pre f.now i }
-    requires done { All (λ part. All (λ done. IsWork F.Fn f.now count done.number done.value) part.items) parts.items }
+    requires done { All (λ part.
+        All (λ done. IsWork F.Fn f.now count done.number done.value) part.items) parts.items }
     ensures len { IfOk result (λ v. length v.items ≡ count) }
     ensures each { IfOk result (λ v. GivesEach F.Fn f.now count v.items) }
 {
@@ -136,7 +142,8 @@ fn in_places<X: Drop, F: Fn(usize) -> X>(
     parts: Vec<Vec<Done<X>>>,
     f: &F,
 ) -> Result<Vec<Option<X>>, AllocError>
-    requires done { All (λ part. All (λ done. IsWork F.Fn f.now count done.number done.value) part.items) parts.items }
+    requires done { All (λ part.
+        All (λ done. IsWork F.Fn f.now count done.number done.value) part.items) parts.items }
     ensures { IfOk result (λ places. AreInPlace F.Fn f.now count places.items) }
 {
     let mut places = no_values(alloc, count)?;
@@ -160,7 +167,8 @@ fn no_values<X: Drop>(alloc: Global, count: usize) -> Result<Vec<Option<X>>, All
 
 // Puts the work of one thread in its places. (The contract alone names `f`.)
 fn put_part<X: Drop, F: Fn(usize) -> X>(part: Vec<Done<X>>, places: &mut [Option<X>], f: &F)
-    requires done { All (λ done. IsWork F.Fn f.now (length places.old) done.number done.value) part.items }
+    requires done { All (λ done. IsWork F.Fn f.now
+        (length places.old) done.number done.value) part.items }
     requires in_place { AreInPlace F.Fn f.now (length places.old) places.old }
     ensures size { length places.new ≡ length places.old }
     ensures in_place { AreInPlace F.Fn f.now (length places.old) places.new }

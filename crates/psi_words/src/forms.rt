@@ -24,7 +24,8 @@ pub fn read_number(word: &str, at: u32, low: u64, high: u64) -> Result<u64, Word
 
 // The value of a number word. None where the word is none, or has a greater value than fits.
 fn value(word: &[u8]) -> Option<u64>
-    ensures { result ≡ (if is_of (Number 0 18446744073709551615) word.now then Some (written_number word.now) else None) }
+    ensures { result ≡ (if is_of (Number 0 18446744073709551615) word.now then Some
+        (written_number word.now) else None) }
 {
     if is_number(word) {
         digits_value(word)

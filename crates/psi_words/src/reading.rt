@@ -32,10 +32,13 @@ pub fn read_words(alloc: Global, words: &[String]) -> Result<Command, WordFault>
 
 // The command of a command word, with the words before and behind it.
 fn named(alloc: Global, lead: &Lead, word: &str, behind: &[String]) -> Result<Command, WordFault>
-    ensures command { IfOk result (λ command. judged_named (shown lead.now) word.now (map string_bytes behind.now) ≡ Ok command) }
+    ensures command { IfOk result (λ command. judged_named (shown lead.now) word.now
+        (map string_bytes behind.now) ≡ Ok command) }
     ensures lanes { IfOk result HasLanes }
-    ensures fault { IfErr result (λ fault. (judged_named (shown lead.now) word.now (map string_bytes behind.now) ≡ Err fault)
-        ⊎ ((fault ≡ NoMemory) × KeepsName (judged_named (shown lead.now) word.now (map string_bytes behind.now)))) }
+    ensures fault { IfErr result (λ fault. (judged_named (shown lead.now) word.now
+        (map string_bytes behind.now) ≡ Err fault)
+        ⊎ ((fault ≡ NoMemory) × KeepsName (judged_named (shown lead.now) word.now
+            (map string_bytes behind.now)))) }
 {
     match word {
         "serve" => serve(lead, behind),
@@ -61,7 +64,8 @@ struct Sizes {
 
 // The values of DROP and of the first three words behind the command word.
 fn read_sizes(lead: &Lead, rows: &str, capacity: &str, units: &str) -> Result<Sizes, WordFault>
-    ensures { result ≡ judged_value (first_wrong_behind sizes (shown lead.now) (rows.now ∷ capacity.now ∷ units.now ∷ []))
+    ensures { result ≡ judged_value (first_wrong_behind sizes (shown lead.now)
+        (rows.now ∷ capacity.now ∷ units.now ∷ []))
         (sizes_of (shown lead.now) rows.now capacity.now units.now) }
 {
     Ok(Sizes {
@@ -75,7 +79,8 @@ fn read_sizes(lead: &Lead, rows: &str, capacity: &str, units: &str) -> Result<Si
 
 // The command `serve` with the words behind it.
 fn serve(lead: &Lead, behind: &[String]) -> Result<Command, WordFault>
-    ensures judged { result ≡ judged_behind serve_row (shown lead.now) (map string_bytes behind.now) }
+    ensures judged { result ≡ judged_behind serve_row (shown lead.now)
+        (map string_bytes behind.now) }
     ensures lanes { IfOk result HasLanes }
 {
     let [rows, capacity, units, workers, builders] = behind else {
@@ -97,7 +102,8 @@ fn serve(lead: &Lead, behind: &[String]) -> Result<Command, WordFault>
 
 // The command `replay` with the words behind it.
 fn replay(lead: &Lead, behind: &[String]) -> Result<Command, WordFault>
-    ensures judged { result ≡ judged_behind replay_row (shown lead.now) (map string_bytes behind.now) }
+    ensures judged { result ≡ judged_behind replay_row (shown lead.now)
+        (map string_bytes behind.now) }
     ensures lanes { IfOk result HasLanes }
 {
     let [rows, capacity, units] = behind else {
@@ -115,7 +121,8 @@ fn replay(lead: &Lead, behind: &[String]) -> Result<Command, WordFault>
 
 // The command `params` with the words behind it.
 fn params(lead: &Lead, behind: &[String]) -> Result<Command, WordFault>
-    ensures judged { result ≡ judged_behind params_row (shown lead.now) (map string_bytes behind.now) }
+    ensures judged { result ≡ judged_behind params_row (shown lead.now)
+        (map string_bytes behind.now) }
     ensures lanes { IfOk result HasLanes }
 {
     let [rows, capacity, units] = behind else {
@@ -133,7 +140,8 @@ fn params(lead: &Lead, behind: &[String]) -> Result<Command, WordFault>
 
 // The command `ask` with the words behind it.
 fn ask(lead: &Lead, behind: &[String]) -> Result<Command, WordFault>
-    ensures judged { result ≡ judged_behind ask_row (shown lead.now) (map string_bytes behind.now) }
+    ensures judged { result ≡ judged_behind ask_row (shown lead.now)
+        (map string_bytes behind.now) }
     ensures lanes { IfOk result HasLanes }
 {
     let [rows, capacity, units, seed, session, number] = behind else {
@@ -157,10 +165,13 @@ fn ask(lead: &Lead, behind: &[String]) -> Result<Command, WordFault>
 
 // The command `open` with the words behind it.
 fn open(alloc: Global, lead: &Lead, behind: &[String]) -> Result<Command, WordFault>
-    ensures command { IfOk result (λ command. judged_behind open_row (shown lead.now) (map string_bytes behind.now) ≡ Ok command) }
+    ensures command { IfOk result (λ command. judged_behind open_row (shown lead.now)
+        (map string_bytes behind.now) ≡ Ok command) }
     ensures lanes { IfOk result HasLanes }
-    ensures fault { IfErr result (λ fault. (judged_behind open_row (shown lead.now) (map string_bytes behind.now) ≡ Err fault)
-        ⊎ ((fault ≡ NoMemory) × KeepsName (judged_behind open_row (shown lead.now) (map string_bytes behind.now)))) }
+    ensures fault { IfErr result (λ fault. (judged_behind open_row (shown lead.now)
+        (map string_bytes behind.now) ≡ Err fault)
+        ⊎ ((fault ≡ NoMemory) × KeepsName (judged_behind open_row (shown lead.now)
+            (map string_bytes behind.now)))) }
 {
     let [rows, capacity, units, seed, file] = behind else {
         return Err(WordFault::Count { want: 5 });
@@ -182,7 +193,8 @@ fn open(alloc: Global, lead: &Lead, behind: &[String]) -> Result<Command, WordFa
 // The command `demo` with the words behind it. No words stand before it.
 fn demo(lead: &Lead, behind: &[String]) -> Result<Command, WordFault>
     requires { lead_forms (shown lead.now) ≡ [] }
-    ensures judged { result ≡ judged_behind demo_row (shown lead.now) (map string_bytes behind.now) }
+    ensures judged { result ≡ judged_behind demo_row (shown lead.now)
+        (map string_bytes behind.now) }
     ensures lanes { IfOk result HasLanes }
 {
     let [number, workers] = behind else {
@@ -196,7 +208,8 @@ fn demo(lead: &Lead, behind: &[String]) -> Result<Command, WordFault>
 // The command `help` with the words behind it. No words stand before it.
 fn help(lead: &Lead, behind: &[String]) -> Result<Command, WordFault>
     requires { lead_forms (shown lead.now) ≡ [] }
-    ensures judged { result ≡ judged_behind help_row (shown lead.now) (map string_bytes behind.now) }
+    ensures judged { result ≡ judged_behind help_row (shown lead.now)
+        (map string_bytes behind.now) }
     ensures lanes { IfOk result HasLanes }
 {
     if behind.is_empty() {

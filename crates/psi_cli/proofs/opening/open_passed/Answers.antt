@@ -3,7 +3,7 @@ use Rattle.std.specs.Result.{IfErr}
 use Rattle.std.proofs.lemmas.Result.{IfErr-weaker}
 use Rattle.noise_ledger.specs.Verdicts.{parameters_of}
 use Rattle.psi_cli.specs.AskAndOpen.{opening}
-use Rattle.psi_cli.specs.Opening.{IsUnopened}
+use Rattle.psi_cli.specs.Inner.Opening.{IsUnopened}
 use Rattle.psi_cli.specs.Readers.{ReadsNothing}
 use Rattle.psi_cli.specs.Worlds.{Given, given}
 use Rattle.psi_cli.proofs.Made.{handed, no_file, opens_none, unopened}

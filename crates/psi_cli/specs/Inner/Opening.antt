@@ -1,4 +1,4 @@
--- Why `open` comes to nothing behind its items: for its private parts alone.
+-- Why `open` comes to nothing behind its items.
 use Rattle.std.specs.Prelude.{◌≡◌, ℕ, List, map, Option, Some, IfSome, ⊤}
 use Rattle.item_slots.specs.Tags.{tag_of}
 use Rattle.psi_residue.specs.Parameters.{Parameters}

@@ -1,0 +1,3 @@
+-- Definitions for the private parts alone.
+pub mod Opening
+pub mod Threads
