@@ -25,7 +25,8 @@ use Rattle.psi_frames.specs.RoundSizes.{IsSizeOf, Sizes}
 use Rattle.psi_serve.specs.declared.stop.Stop.{Stop}
 use Rattle.psi_serve.specs.declared.stop.Stop.TheVariants.{BadInput, ReadFault, WriteFault, NoMemory}
 use Rattle.psi_outside.specs.Ends.{SinkTold}
-use Rattle.psi_serve.specs.Runs.{AnswersRound, AreFull, BeginWithRounds, HasAnswered, HasAnsweredAll, HasGivenUp, HasGoneOn, HasWaited, IsHalted, IsOpen, LastStops, Line, RoundStops, Stands, StopsAt, TakeStops, Takes, frames_of, with_frame}
+use Rattle.psi_serve.specs.Runs.{AnswersRound, AreFull, BeginWithRounds, GoOnFrom, HasAnswered, HasAnsweredAll, HasGivenUp, HasGoneOn, HasWaited, IsHalted, LastStops, Line, Mark, RoundStops, Stands, StopsAt, TakeStops, Takes, frames_of, with_frame}
+use Rattle.psi_serve.specs.Serving.{IsOpen}
 use Rattle.psi_serve.proofs.Fewer.{frames-fewer, replies-fewer}
 use Rattle.psi_serve.proofs.Joins.{round_joins, round_joins_lane}
 
@@ -123,8 +124,15 @@ full-more rounds round are is full = record {
 front-each : (xs ys : List Frame) → All (IsFrame request_table) (xs ++ ys) → All (IsFrame request_table) xs
 front-each xs ys each = All-same (IsFrame request_table) xs (take (length xs) (xs ++ ys)) (sym (take-append_seam xs ys)) (All-take (IsFrame request_table) (length xs) (xs ++ ys) each)
 
+-- one round more goes on too
+goes-more : (mark : Mark) (rounds : List (List Frame)) (round : List Frame) → GoOnFrom mark rounds → GoOnFrom mark (rounds ++ round ∷ [])
+goes-more mark rounds round goes = (
+  goes.0 ++ round,
+  frames-more rounds round ∙ ap (λ (fs : List Frame). fs ++ round) goes.1 ∙ append_assoc mark.answered goes.0 round,
+)
+
 -- The frames of a run that stands.
-module _ (p : Parameters) (old : SinkTold) (bytes : List ℕ) (feed : Feeding) (line : Line) (now : SinkTold) (stands : Stands p old bytes feed line now) where
+module _ (p : Parameters) (mark : Mark) (bytes : List ℕ) (feed : Feeding) (line : Line) (now : SinkTold) (stands : Stands p mark bytes feed line now) where
   all_frames : List Frame
   all_frames = (frames_of stands.rounds ++ line.waiting) ++ feed.ready
 
@@ -168,7 +176,7 @@ module _ (p : Parameters) (old : SinkTold) (bytes : List ℕ) (feed : Feeding) (
   }
 
   -- memory ran out, and nothing was written
-  pub halts : (new : Line) (after : SinkTold) → HasGivenUp line new now after → IsHalted p old bytes new after
+  pub halts : (new : Line) (after : SinkTold) → HasGivenUp line new now after → IsHalted p mark bytes new after
   halts new after gave_up = record {
     limit = stands.limit;
     before = line;
@@ -176,12 +184,13 @@ module _ (p : Parameters) (old : SinkTold) (bytes : List ℕ) (feed : Feeding) (
     rounds = stands.rounds;
     begins = begins stands.rounds (line.waiting ++ feed.ready) (append_assoc (frames_of stands.rounds) line.waiting feed.ready);
     full = stands.full;
+    goes_on = stands.goes_on;
     sents = stands.sents;
-    answered = subst (λ (s : SinkTold). HasAnswered p line stands.rounds stands.sents old s) (sym gave_up.untouched) stands.answered;
+    answered = subst (λ (s : SinkTold). HasAnswered p line stands.rounds stands.sents mark.sink s) (sym gave_up.untouched) stands.answered;
   }
 
 -- One frame more is taken.
-module _ (p : Parameters) (old : SinkTold) (bytes : List ℕ) (feed feed' : Feeding) (line line' : Line) (now now' : SinkTold) (f : Frame) (stands : Stands p old bytes feed line now)
+module _ (p : Parameters) (mark : Mark) (bytes : List ℕ) (feed feed' : Feeding) (line line' : Line) (now now' : SinkTold) (f : Frame) (stands : Stands p mark bytes feed line now)
     (taken : feed ≡ record feed' { ready = f ∷ feed'.ready })
     (fed : (all : List ℕ) (frames : List Frame) → HasFed feed all frames → HasFed feed' all (frames ++ f ∷ [])) where
   moved : HasFed feed' bytes (frames_of stands.rounds ++ (line.waiting ++ f ∷ []))
@@ -190,11 +199,11 @@ module _ (p : Parameters) (old : SinkTold) (bytes : List ℕ) (feed feed' : Feed
   requests : feed'.replies ≡ false
   requests = sym (ap (λ (g : Feeding). g.replies) taken) ∙ stands.requests
 
-  waited : HasWaited line line' f now now' → Stands p old bytes feed' line' now'
+  waited : HasWaited line line' f now now' → Stands p mark bytes feed' line' now'
   waited waits =
       let mid : Line = record (with_frame line f) { size = line'.size } in
-      subst (λ (l : Line). Stands p old bytes feed' l now') (sym waits.waits)
-      (subst (λ (s : SinkTold). Stands p old bytes feed' mid s) (sym waits.untouched)
+      subst (λ (l : Line). Stands p mark bytes feed' l now') (sym waits.waits)
+      (subst (λ (s : SinkTold). Stands p mark bytes feed' mid s) (sym waits.untouched)
       (record {
         limit = stands.limit;
         rounds = stands.rounds;
@@ -204,10 +213,11 @@ module _ (p : Parameters) (old : SinkTold) (bytes : List ℕ) (feed feed' : Feed
         full = stands.full;
         open_round = open-more line.waiting f stands.open_round waits.not_full;
         size = waits.size;
-        answered = answered-waits p line (line.waiting ++ f ∷ []) line'.size stands.rounds stands.sents old now stands.answered;
+        goes_on = stands.goes_on;
+        answered = answered-waits p line (line.waiting ++ f ∷ []) line'.size stands.rounds stands.sents mark.sink now stands.answered;
       }))
 
-  filled : IsTrue (is_full (line.waiting ++ f ∷ [])) → HasGoneOn p (with_frame line f) line' now now' → Stands p old bytes feed' line' now'
+  filled : IsTrue (is_full (line.waiting ++ f ∷ [])) → HasGoneOn p (with_frame line f) line' now now' → Stands p mark bytes feed' line' now'
   filled full gone =
       let round = line.waiting ++ f ∷ [] in
       let rounds = stands.rounds ++ round ∷ [] in
@@ -221,10 +231,11 @@ module _ (p : Parameters) (old : SinkTold) (bytes : List ℕ) (feed feed' : Feed
         full = full-more stands.rounds round stands.full (open-round line.waiting f stands.open_round) full;
         open_round = subst IsOpen (sym gone.none_waits) open-nil;
         size = subst (λ (w : List Frame). IsSizeOf line'.size w) (sym gone.none_waits) gone.size;
-        answered = answered-more p (with_frame line f) line' stands.rounds stands.sents old now now' (answered-waits p line round line.size stands.rounds stands.sents old now stands.answered) gone;
+        goes_on = goes-more mark stands.rounds round stands.goes_on;
+        answered = answered-more p (with_frame line f) line' stands.rounds stands.sents mark.sink now now' (answered-waits p line round line.size stands.rounds stands.sents mark.sink now stands.answered) gone;
       }
 
-  pub stands-take : Takes p line line' f now now' → Stands p old bytes feed' line' now'
+  pub stands-take : Takes p line line' f now now' → Stands p mark bytes feed' line' now'
   stands-take (inl waits) = waited waits
   stands-take (inr full) = filled full.0 full.1
 
@@ -234,7 +245,7 @@ module _ (p : Parameters) (old : SinkTold) (bytes : List ℕ) (feed feed' : Feed
       ∙ sym (append_assoc (frames_of stands.rounds ++ line.waiting) (f ∷ []) feed'.ready)
       ∙ ap (λ (fs : List Frame). fs ++ feed'.ready) (append_assoc (frames_of stands.rounds) line.waiting (f ∷ []) ∙ sym (frames-more stands.rounds (line.waiting ++ f ∷ [])))
 
-  pub stops-take : (stop : Stop) → TakeStops p line line' f now now' stop → StopsAt p old bytes line' now' stop
+  pub stops-take : (stop : Stop) → TakeStops p line line' f now now' stop → StopsAt p mark bytes line' now' stop
   stops-take BadInput stops = stops
   stops-take ReadFault stops = stops
   stops-take WriteFault stops = (
@@ -243,16 +254,17 @@ module _ (p : Parameters) (old : SinkTold) (bytes : List ℕ) (feed feed' : Feed
       before = with_frame line f;
       rounds = stands.rounds;
       full = stands.full;
-      begins = begins p old bytes feed line now stands (stands.rounds ++ (line.waiting ++ f ∷ []) ∷ []) feed'.ready all-are;
+      begins = begins p mark bytes feed line now stands (stands.rounds ++ (line.waiting ++ f ∷ []) ∷ []) feed'.ready all-are;
       is_round = open-round line.waiting f stands.open_round;
+      goes_on = stands.goes_on;
       sents = stands.sents;
       middle = now;
-      answered = answered-waits p line (line.waiting ++ f ∷ []) line.size stands.rounds stands.sents old now stands.answered;
+      answered = answered-waits p line (line.waiting ++ f ∷ []) line.size stands.rounds stands.sents mark.sink now stands.answered;
       broken = stops.1;
     },
     stops.0,
   )
-  stops-take NoMemory stops = halts p old bytes feed line now stands line' now' stops
+  stops-take NoMemory stops = halts p mark bytes feed line now stands line' now' stops
 
 -- rounds, all full but the last
 pub full-rounds : (rounds : List (List Frame)) (round : List Frame) (frames : List Frame) → AreFull rounds → IsRound round → frames ≡ frames_of rounds ++ round → AreRounds (rounds ++ round ∷ []) frames
@@ -269,20 +281,20 @@ pub are-rounds : (rounds : List (List Frame)) → AreFull rounds → AreRounds r
 are-rounds rounds are = record { all = refl; each = are.each; full = λ k lt. All-take (λ r. IsTrue (is_full r)) (k + 1) rounds are.full }
 
 -- No frame stands ready any more.
-module _ (p : Parameters) (old : SinkTold) (bytes : List ℕ) (feed : Feeding) (line : Line) (now : SinkTold) (stands : Stands p old bytes feed line now) (empty : feed.ready ≡ []) where
-  cut : IsCut request_table bytes (frames_of stands.rounds ++ line.waiting) feed.rest feed.fault
-  cut =
+module _ (p : Parameters) (mark : Mark) (bytes : List ℕ) (feed : Feeding) (line : Line) (now : SinkTold) (stands : Stands p mark bytes feed line now) (empty : feed.ready ≡ []) where
+  pub all-cut : IsCut request_table bytes (frames_of stands.rounds ++ line.waiting) feed.rest feed.fault
+  all-cut =
       subst (λ (fs : List Frame). IsCut request_table bytes fs feed.rest feed.fault) (ap (λ (r : List Frame). (frames_of stands.rounds ++ line.waiting) ++ r) empty ∙ append-nil (frames_of stands.rounds ++ line.waiting))
       (subst (λ (b : Bool). IsCut (table_of b) bytes ((frames_of stands.rounds ++ line.waiting) ++ feed.ready) feed.rest feed.fault) stands.requests stands.fed)
 
   -- none waits
-  pub all-none : length line.waiting ≡ 0 → HasAnsweredAll p old bytes feed line now
+  pub all-none : length line.waiting ≡ 0 → HasAnsweredAll p mark bytes feed line now
   all-none none =
       let same : frames_of stands.rounds ++ line.waiting ≡ frames_of stands.rounds = ap (λ (w : List Frame). frames_of stands.rounds ++ w) (nil_from line.waiting none) ∙ append-nil (frames_of stands.rounds) in
       record {
         limit = stands.limit;
         frames = frames_of stands.rounds;
-        cut = subst (λ (fs : List Frame). IsCut request_table bytes fs feed.rest feed.fault) same cut;
+        cut = subst (λ (fs : List Frame). IsCut request_table bytes fs feed.rest feed.fault) same all-cut;
         rounds = stands.rounds;
         are_rounds = are-rounds stands.rounds stands.full;
         sents = stands.sents;
@@ -294,21 +306,21 @@ module _ (p : Parameters) (old : SinkTold) (bytes : List ℕ) (feed : Feeding) (
       nil_from (x ∷ xs) e = absurd (omega (arith, e))
 
   -- the round that waits is served
-  pub all-last : (new : Line) (after : SinkTold) → 0 < length line.waiting → HasGoneOn p line new now after → HasAnsweredAll p old bytes feed new after
+  pub all-last : (new : Line) (after : SinkTold) → 0 < length line.waiting → HasGoneOn p line new now after → HasAnsweredAll p mark bytes feed new after
   all-last new after some gone = record {
     limit = stands.limit;
     frames = frames_of stands.rounds ++ line.waiting;
-    cut = cut;
+    cut = all-cut;
     rounds = stands.rounds ++ line.waiting ∷ [];
     are_rounds = full-rounds stands.rounds line.waiting (frames_of stands.rounds ++ line.waiting) stands.full (open-some line.waiting stands.open_round some) refl;
     sents = stands.sents ++ gone.next;
-    answered = answered-more p line new stands.rounds stands.sents old now after stands.answered gone;
+    answered = answered-more p line new stands.rounds stands.sents mark.sink now after stands.answered gone;
   }
 
-  pub stops-last : (new : Line) (after : SinkTold) (stop : Stop) → 0 < length line.waiting → RoundStops p line new now after stop → LastStops p old bytes feed new after stop
+  pub stops-last : (new : Line) (after : SinkTold) (stop : Stop) → 0 < length line.waiting → RoundStops p line new now after stop → LastStops p mark bytes feed new after stop
   stops-last new after BadInput some stops = stops
   stops-last new after ReadFault some stops = stops
-  stops-last new after NoMemory some stops = halts p old bytes feed line now stands new after stops
+  stops-last new after NoMemory some stops = halts p mark bytes feed line now stands new after stops
   stops-last new after WriteFault some stops =
       let all = frames-more stands.rounds line.waiting in (
         record {
@@ -316,23 +328,24 @@ module _ (p : Parameters) (old : SinkTold) (bytes : List ℕ) (feed : Feeding) (
           before = line;
           rounds = stands.rounds;
           full = stands.full;
-          begins = begins p old bytes feed line now stands (stands.rounds ++ line.waiting ∷ []) feed.ready (ap (λ (fs : List Frame). fs ++ feed.ready) (sym all));
+          begins = begins p mark bytes feed line now stands (stands.rounds ++ line.waiting ∷ []) feed.ready (ap (λ (fs : List Frame). fs ++ feed.ready) (sym all));
           is_round = open-some line.waiting stands.open_round some;
+          goes_on = stands.goes_on;
           sents = stands.sents;
           middle = now;
           answered = stands.answered;
           broken = stops;
         },
-        subst (λ (fs : List Frame). IsCut request_table bytes fs feed.rest feed.fault) (sym all) cut,
+        subst (λ (fs : List Frame). IsCut request_table bytes fs feed.rest feed.fault) (sym all) all-cut,
       )
 
 -- the same for a call's result
 pub last-goes : {U : Type 0} (p : Parameters) (line new : Line) (now after : SinkTold) (r : Result U Stop) → 0 < length line.waiting → OnOk r (HasGoneOn p line new now after)
-    → OnOk r ((old : SinkTold) (bytes : List ℕ) (feed : Feeding) → feed.ready ≡ [] → Stands p old bytes feed line now → HasAnsweredAll p old bytes feed new after)
-last-goes p line new now after (Ok u) some gone = λ old bytes feed empty stands. all-last p old bytes feed line now stands empty new after some gone
+    → OnOk r ((mark : Mark) (bytes : List ℕ) (feed : Feeding) → feed.ready ≡ [] → Stands p mark bytes feed line now → HasAnsweredAll p mark bytes feed new after)
+last-goes p line new now after (Ok u) some gone = λ mark bytes feed empty stands. all-last p mark bytes feed line now stands empty new after some gone
 last-goes p line new now after (Err e) some gone = tt
 
 pub last-stops : {U : Type 0} (p : Parameters) (line new : Line) (now after : SinkTold) (r : Result U Stop) → 0 < length line.waiting → IfErr r (RoundStops p line new now after)
-    → IfErr r (λ stop. (old : SinkTold) (bytes : List ℕ) (feed : Feeding) → feed.ready ≡ [] → Stands p old bytes feed line now → LastStops p old bytes feed new after stop)
+    → IfErr r (λ stop. (mark : Mark) (bytes : List ℕ) (feed : Feeding) → feed.ready ≡ [] → Stands p mark bytes feed line now → LastStops p mark bytes feed new after stop)
 last-stops p line new now after (Ok u) some stops = tt
-last-stops p line new now after (Err stop) some stops = λ old bytes feed empty stands. stops-last p old bytes feed line now stands empty new after stop some stops
+last-stops p line new now after (Err stop) some stops = λ mark bytes feed empty stands. stops-last p mark bytes feed line now stands empty new after stop some stops

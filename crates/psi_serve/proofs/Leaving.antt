@@ -22,10 +22,10 @@ use Rattle.psi_frames.proofs.Fronts.{fault-stays}
 use Rattle.query_pool.specs.declared.round.Served.{Served}
 use Rattle.psi_serve.specs.declared.stop.Stop.{Stop}
 use Rattle.psi_serve.specs.declared.stop.Stop.TheVariants.{BadInput, ReadFault, WriteFault, NoMemory}
-use Rattle.psi_serve.specs.Serving.{AreRepliesTo, BeginWith, Counts, FillRounds, HasServed, IsAnswered, IsBadInput, IsDone, IsFlushedTo, IsInput, IsLastOrFull, IsOutOfMemory, IsReadFault, IsWriteFault}
-use Rattle.psi_serve.specs.Runs.{AreFull, BeginWithRounds, HasAnswered, HasAnsweredAll, IsBadPiece, IsCutOff, IsHalted, IsHearing, IsNew, IsOpen, LastStops, Leaves, Line, PieceStops, frames_of}
+use Rattle.psi_serve.specs.Serving.{AreRepliesTo, BeginWith, Counts, EndsRound, FillRounds, HasServed, InputEnds, IsAnswered, IsBadFrame, IsBadInput, IsCaughtUp, IsCutShort, IsDone, IsFlushedTo, IsInput, IsNoBadFrame, IsOpen, IsOutOfMemory, IsReadFault, IsWriteFault, KeepsUp, NoReadFailed, OneReadFailed}
+use Rattle.psi_serve.specs.Runs.{AreFull, BeginWithRounds, GoOnFrom, HasAnswered, HasAnsweredAll, IsBadPiece, IsCutOff, IsHalted, IsHearing, IsNew, LastStops, Leaves, Line, Mark, PieceStops, Stands, first_mark, frames_of}
 use Rattle.psi_serve.proofs.Fewer.{frames-fewer, places-entries}
-use Rattle.psi_serve.proofs.Going.{are-rounds, frames-more, full-rounds, lane-more, open-nil, served-more}
+use Rattle.psi_serve.proofs.Going.{all-cut, are-rounds, frames-more, full-rounds, lane-more, open-nil, served-more}
 use Rattle.psi_serve.proofs.Joins.{none_lane, none_served}
 
 -- nothing stands at the front of no bytes
@@ -128,15 +128,44 @@ begin-with bytes more rounds le begins =
 fill-rounds : (rounds : List (List Frame)) → AreFull rounds → FillRounds (frames_of rounds)
 fill-rounds rounds are = record { rounds = rounds; all = refl; each = are.each; full = are.full }
 
+-- a run seen from where these frames were answered; its sink told the same then as at the beginning
+abbrev pub mark_of : Ends → List Frame → Mark
+mark_of old answered = record { sink = old.sink; answered = answered }
+
+-- the last read, behind which these frames were answered
+pub record InTurn (old new : Ends) (taken : List ℕ) (answered : List Frame) : Type 0 where
+  pub before : List ℕ
+  pub piece : List ℕ
+  pub taken_is : taken ≡ before ++ piece
+  pub one_read : length piece ≤ 65536
+  pub caught_up : IsCaughtUp before answered
+  pub last_read : NoReadFailed old new ⊎ ((piece ≡ []) × OneReadFailed old new)
+
+keeps-up : (old new : Ends) (taken : List ℕ) (answered : List Frame) (rounds : List (List Frame)) → InTurn old new taken answered → GoOnFrom (mark_of old answered) rounds
+    → KeepsUp old new taken (frames_of rounds)
+keeps-up old new taken answered rounds turn goes = record {
+  before = turn.before;
+  piece = turn.piece;
+  taken_is = turn.taken_is;
+  one_read = turn.one_read;
+  answered = answered;
+  since = goes.0;
+  frames_are = goes.1;
+  caught_up = turn.caught_up;
+  last_read = turn.last_read;
+}
+
 -- 7
-pub halted : (p : Parameters) (alone : Bool) (old new : Ends) (bytes more : List ℕ) (line : Line) (served : Served) → line.alone ≡ alone → served.entries ≡ line.entries → served.replies ≡ line.replies
-    → Consumes old.source.left new.source.left (bytes ++ more) → IsHalted p old.sink bytes line new.sink → IsOutOfMemory p alone old new served
-halted p alone old new bytes more line served same entries replies consumed halt = record {
+pub halted : (p : Parameters) (alone : Bool) (old new : Ends) (answered : List Frame) (bytes more : List ℕ) (line : Line) (served : Served) → line.alone ≡ alone → served.entries ≡ line.entries
+    → served.replies ≡ line.replies → Consumes old.source.left new.source.left (bytes ++ more) → InTurn old new (bytes ++ more) answered → IsHalted p (mark_of old answered) bytes line new.sink
+    → IsOutOfMemory p alone old new served
+halted p alone old new answered bytes more line served same entries replies consumed turn halt = record {
   taken = bytes ++ more;
   consumed = consumed;
   frames = frames_of halt.rounds;
   begin_with = begin-with bytes more halt.rounds halt.limit halt.begins;
   fill_rounds = fill-rounds halt.rounds halt.full;
+  keeps_up = keeps-up old new (bytes ++ more) answered halt.rounds turn halt.goes_on;
   answered = is-answered p alone halt.before halt.rounds (frames_of halt.rounds) halt.sents old new served (are-rounds halt.rounds halt.full) (sym halt.counts.alone ∙ same)
       (entries ∙ halt.counts.entries) (replies ∙ halt.counts.replies) halt.answered;
 }
@@ -157,10 +186,10 @@ flushed-to old new middle text h (inl all) e = inl (flushed-up old.written middl
 flushed-to old new middle text h (inr none) e = inr (none.0, e ∙ none.1)
 
 -- 6
-pub cut_off : (p : Parameters) (alone : Bool) (old new : Ends) (bytes more : List ℕ) (line : Line) (served : Served) → line.alone ≡ alone → served.entries ≡ line.entries → served.replies ≡ line.replies
-    → Consumes old.source.left new.source.left (bytes ++ more) → (cut : IsCutOff p old.sink bytes line new.sink)
-    → IsLastOrFull (bytes ++ more) (frames_of (cut.rounds ++ cut.before.waiting ∷ [])) cut.before.waiting → IsWriteFault p alone old new served
-cut_off p alone old new bytes more line served same entries replies consumed cut ends =
+pub cut_off : (p : Parameters) (alone : Bool) (old new : Ends) (answered : List Frame) (bytes more : List ℕ) (line : Line) (served : Served) → line.alone ≡ alone → served.entries ≡ line.entries
+    → served.replies ≡ line.replies → Consumes old.source.left new.source.left (bytes ++ more) → InTurn old new (bytes ++ more) answered → (cut : IsCutOff p (mark_of old answered) bytes line new.sink)
+    → EndsRound old new (bytes ++ more) (frames_of (cut.rounds ++ cut.before.waiting ∷ [])) cut.before.waiting → IsWriteFault p alone old new served
+cut_off p alone old new answered bytes more line served same entries replies consumed turn cut ends =
     let round = cut.before.waiting in
     let earlier = frames_of cut.rounds in
     let all = frames-more cut.rounds round in
@@ -174,7 +203,8 @@ cut_off p alone old new bytes more line served same entries replies consumed cut
       begin_with = subst (BeginWith (bytes ++ more)) all (begin-with bytes more (cut.rounds ++ round ∷ []) cut.limit cut.begins);
       fill_rounds = fill-rounds cut.rounds cut.full;
       is_round = cut.is_round;
-      ends = subst (λ (frames : List Frame). IsLastOrFull (bytes ++ more) frames round) all ends;
+      ends = subst (λ (frames : List Frame). EndsRound old new (bytes ++ more) frames round) all ends;
+      keeps_up = keeps-up old new (bytes ++ more) answered cut.rounds turn cut.goes_on;
       done = cut.sents;
       done_replies = replies-to p alone cut.before cut.rounds earlier cut.sents old.sink cut.middle (are-rounds cut.rounds cut.full) own cut.answered;
       last = next;
@@ -192,10 +222,10 @@ cut_off p alone old new bytes more line served same entries replies consumed cut
     }
 
 -- 0 and 4 where the input ends
-pub at-end : (p : Parameters) (alone : Bool) (old new : Ends) (feed : Feeding) (bytes : List ℕ) (line : Line) (served : Served) → line.alone ≡ alone → served.entries ≡ line.entries → served.replies ≡ line.replies
-    → HasAnsweredAll p old.sink bytes feed line new.sink → IsInput old bytes → IfSome old.source.left (λ _. new.source.left ≡ Some []) → new.source.faults ≡ old.source.faults
+pub at-end : (p : Parameters) (alone : Bool) (old new : Ends) (answered : List Frame) (feed : Feeding) (bytes : List ℕ) (line : Line) (served : Served) → line.alone ≡ alone → served.entries ≡ line.entries → served.replies ≡ line.replies
+    → HasAnsweredAll p (mark_of old answered) bytes feed line new.sink → IsInput old bytes → InputEnds old new → new.source.faults ≡ old.source.faults
     → end_fault feed.fault feed.rest ≡ None → IsDone p alone old new served
-at-end p alone old new feed bytes line served same entries replies all told ended read none = record {
+at-end p alone old new answered feed bytes line served same entries replies all told ended read none = record {
   input = bytes;
   told = told;
   size = all.limit;
@@ -206,9 +236,9 @@ at-end p alone old new feed bytes line served same entries replies all told ende
   no_read_failed = read;
 }
 
-pub at-bad_end : (p : Parameters) (alone : Bool) (old new : Ends) (feed : Feeding) (bytes : List ℕ) (line : Line) (served : Served) → line.alone ≡ alone → served.entries ≡ line.entries → served.replies ≡ line.replies
-    → HasAnsweredAll p old.sink bytes feed line new.sink → IsInput old bytes → new.source.faults ≡ old.source.faults → IsSome (end_fault feed.fault feed.rest) → IsBadInput p alone old new served
-at-bad_end p alone old new feed bytes line served same entries replies all told read bad = record {
+pub at-bad_end : (p : Parameters) (alone : Bool) (old new : Ends) (answered : List Frame) (feed : Feeding) (bytes : List ℕ) (line : Line) (served : Served) → line.alone ≡ alone → served.entries ≡ line.entries → served.replies ≡ line.replies
+    → HasAnsweredAll p (mark_of old answered) bytes feed line new.sink → IsInput old bytes → new.source.faults ≡ old.source.faults → IsSome (end_fault feed.fault feed.rest) → IsBadInput p alone old new served
+at-bad_end p alone old new answered feed bytes line served same entries replies all told read bad = record {
   input = bytes;
   told = told;
   frames = all.frames;
@@ -219,24 +249,54 @@ at-bad_end p alone old new feed bytes line served same entries replies all told 
   no_read_failed = read;
 }
 
+-- without a fault the bytes end behind a whole frame or within one
+no-bad : (fault : Option Fault) (rest : List ℕ) → fault ≡ None → IsNoBadFrame (end_fault fault rest)
+no-bad (Some f) rest e = absurd (cc)
+no-bad None [] e = inl refl
+no-bad None (b ∷ bs) e = inr refl
+
+-- a run that stands has answered all but an open round
+pub caught-up : (p : Parameters) (mark : Mark) (bytes : List ℕ) (feed : Feeding) (line : Line) (now : SinkTold) → (stands : Stands p mark bytes feed line now) → feed.ready ≡ [] → feed.fault ≡ None
+    → IsCaughtUp bytes (frames_of stands.rounds)
+caught-up p mark bytes feed line now stands empty none = record {
+  size = stands.limit;
+  waiting = line.waiting;
+  open_round = stands.open_round;
+  fault = end_fault feed.fault feed.rest;
+  whole = cut-whole bytes (frames_of stands.rounds ++ line.waiting) feed.rest feed.fault stands.limit (all-cut p mark bytes feed line now stands empty);
+  no_bad_frame = no-bad feed.fault feed.rest none;
+}
+
+-- it stands so too, seen from there
+pub stands-here : (p : Parameters) (mark : Mark) (bytes : List ℕ) (feed : Feeding) (line : Line) (now : SinkTold) → (stands : Stands p mark bytes feed line now)
+    → Stands p (record { sink = mark.sink; answered = frames_of stands.rounds }) bytes feed line now
+stands-here p mark bytes feed line now stands = record {
+  limit = stands.limit;
+  rounds = stands.rounds;
+  sents = stands.sents;
+  fed = stands.fed;
+  requests = stands.requests;
+  full = stands.full;
+  open_round = stands.open_round;
+  size = stands.size;
+  goes_on = ([], sym (append-nil (frames_of stands.rounds)));
+  answered = stands.answered;
+}
+
 -- 5
-pub at-read_fault : (p : Parameters) (alone : Bool) (old new : Ends) (feed : Feeding) (bytes : List ℕ) (line : Line) (served : Served) → line.alone ≡ alone → served.entries ≡ line.entries → served.replies ≡ line.replies
-    → HasAnsweredAll p old.sink bytes feed line new.sink → feed.fault ≡ None → Consumes old.source.left new.source.left bytes → Rose old.source.faults new.source.faults → IsReadFault p alone old new served
-at-read_fault p alone old new feed bytes line served same entries replies all faultless consumed rose = record {
+pub at-read_fault : (p : Parameters) (alone : Bool) (old new : Ends) (answered : List Frame) (feed : Feeding) (bytes : List ℕ) (line : Line) (served : Served) → line.alone ≡ alone → served.entries ≡ line.entries → served.replies ≡ line.replies
+    → HasAnsweredAll p (mark_of old answered) bytes feed line new.sink → feed.fault ≡ None → Consumes old.source.left new.source.left bytes → Rose old.source.faults new.source.faults → IsReadFault p alone old new served
+at-read_fault p alone old new answered feed bytes line served same entries replies all faultless consumed rose = record {
   taken = bytes;
   consumed = consumed;
   size = all.limit;
   frames = all.frames;
   fault = end_fault feed.fault feed.rest;
   whole = cut-whole bytes all.frames feed.rest feed.fault all.limit all.cut;
-  no_bad_frame = by_rest feed.fault feed.rest faultless;
+  no_bad_frame = no-bad feed.fault feed.rest faultless;
   answered = is-answered p alone line all.rounds all.frames all.sents old new served all.are_rounds same entries replies all.answered;
   failed = rose;
-} where
-  by_rest : (fault : Option Fault) (rest : List ℕ) → fault ≡ None → (end_fault fault rest ≡ None) ⊎ (end_fault fault rest ≡ Some Short)
-  by_rest (Some f) rest e = absurd (cc)
-  by_rest None [] e = inl refl
-  by_rest None (b ∷ bs) e = inr refl
+}
 
 -- the bytes that are left, where they are told
 abbrev known : Option (List ℕ) → List ℕ
@@ -261,12 +321,12 @@ length-seen bytes piece room e lt = omega (arith, e, lt, length-append bytes (ta
 -- the frames of a bad piece, whatever comes behind it
 bad-whole : (bytes piece rest : List ℕ) (room : ℕ) (feed : Feeding) (frames : List Frame) → length bytes + room ≡ most_bytes → length (bytes ++ take room piece) ≤ most_bytes
     → IsCut request_table (bytes ++ take room piece) frames feed.rest feed.fault → IsBadPiece feed room piece
-    → (fault : Option Fault) × AreWholeFrames request_table ((bytes ++ piece) ++ rest) frames fault × (IsSome fault ⊎ (most_bytes < length ((bytes ++ piece) ++ rest)))
+    → (fault : Option Fault) × AreWholeFrames request_table ((bytes ++ piece) ++ rest) frames fault × (IsBadFrame fault ⊎ (most_bytes < length ((bytes ++ piece) ++ rest)))
 bad-whole bytes piece rest room feed frames e limit cut (inl met) = (
   Some met.0,
   subst (λ (t : List ℕ). AreWholeFrames request_table t frames (Some met.0)) (sym (seen-more bytes piece rest room))
       (cut-faulty (bytes ++ take room piece) (drop room piece ++ rest) frames feed.rest feed.fault met.0 limit met.1 met.2 cut),
-  inl refl,
+  inl (met.0, refl, met.2),
 )
 bad-whole bytes piece rest room feed frames e limit cut (inr more) = (
   end_fault feed.fault feed.rest,
@@ -275,16 +335,26 @@ bad-whole bytes piece rest room feed frames e limit cut (inr more) = (
   inr (omega (arith, e, more, length-append bytes piece, length-append (bytes ++ piece) rest)),
 )
 
+-- a bad frame is some fault
+some-bad : (fault : Option Fault) (n : ℕ) → IsBadFrame fault ⊎ (most_bytes < n) → IsSome fault ⊎ (most_bytes < n)
+some-bad None n (inl bad) = absurd (let none = bad.1 in cc)
+some-bad (Some f) n (inl bad) = inl refl
+some-bad fault n (inr long) = inr long
+
 -- a stop behind a piece
-module _ (p : Parameters) (alone : Bool) (old new : Ends) (feed : Feeding) (bytes piece : List ℕ) (room : ℕ) (line : Line) (same : line.alone ≡ alone) (room_is : length bytes + room ≡ most_bytes)
-    (consumed : Consumes old.source.left new.source.left (bytes ++ piece)) (read : new.source.faults ≡ old.source.faults) where
+module _ (p : Parameters) (alone : Bool) (old new : Ends) (answered : List Frame) (feed : Feeding) (bytes piece : List ℕ) (room : ℕ) (line : Line) (same : line.alone ≡ alone)
+    (room_is : length bytes + room ≡ most_bytes) (consumed : Consumes old.source.left new.source.left (bytes ++ piece)) (read : NoReadFailed old new) (one : length piece ≤ 65536)
+    (up : IsCaughtUp bytes answered) where
   seen : Consumes old.source.left new.source.left ((bytes ++ take room piece) ++ drop room piece)
   seen = subst (Consumes old.source.left new.source.left) (sym (append-nil (bytes ++ piece)) ∙ seen-more bytes piece [] room ∙ ap (λ (t : List ℕ). (bytes ++ take room piece) ++ t) (append-nil (drop room piece))) consumed
 
   all-seen : (bytes ++ piece) ++ [] ≡ (bytes ++ take room piece) ++ drop room piece
   all-seen = seen-more bytes piece [] room ∙ ap (λ (t : List ℕ). (bytes ++ take room piece) ++ t) (append-nil (drop room piece))
 
-  pub leaves-piece : (stop : Stop) → PieceStops p old.sink bytes piece room feed line new.sink stop → Leaves p alone old new line.entries line.replies (Err stop)
+  in-turn : InTurn old new ((bytes ++ take room piece) ++ drop room piece) answered
+  in-turn = record { before = bytes; piece = piece; taken_is = sym all-seen ∙ append-nil (bytes ++ piece); one_read = one; caught_up = up; last_read = inl read }
+
+  pub leaves-piece : (stop : Stop) → PieceStops p (mark_of old answered) bytes piece room feed line new.sink stop → Leaves p alone old new line.entries line.replies (Err stop)
   leaves-piece ReadFault stops = absurd stops
   leaves-piece BadInput (all, bad) = λ served entries replies.
       let whole = bad-whole bytes piece (known new.source.left) room feed all.frames room_is all.limit all.cut bad in
@@ -294,38 +364,59 @@ module _ (p : Parameters) (alone : Bool) (old new : Ends) (feed : Feeding) (byte
         frames = all.frames;
         fault = whole.0;
         whole = whole.1;
-        bad = whole.2;
+        bad = some-bad whole.0 (length ((bytes ++ piece) ++ known new.source.left)) whole.2;
         answered = is-answered p alone line all.rounds all.frames all.sents old new served all.are_rounds same entries replies all.answered;
         no_read_failed = read;
       }
-  leaves-piece WriteFault (cut, inl full) = λ served entries replies. cut_off p alone old new (bytes ++ take room piece) (drop room piece) line served same entries replies seen cut (inl full)
+  leaves-piece WriteFault (cut, inl full) = λ served entries replies. cut_off p alone old new answered (bytes ++ take room piece) (drop room piece) line served same entries replies seen in-turn cut (inl (full, read))
   leaves-piece WriteFault (cut, inr (last, bad)) = λ served entries replies.
       let whole = bad-whole bytes piece [] room feed _ room_is cut.limit last bad in
-      cut_off p alone old new (bytes ++ take room piece) (drop room piece) line served same entries replies seen cut
-      (inr (whole.0, subst (λ (t : List ℕ). AreWholeFrames request_table t (frames_of (cut.rounds ++ cut.before.waiting ∷ [])) whole.0) all-seen whole.1))
-  leaves-piece NoMemory stops = λ served entries replies. halted p alone old new (bytes ++ take room piece) (drop room piece) line served same entries replies seen stops
+      cut_off p alone old new answered (bytes ++ take room piece) (drop room piece) line served same entries replies seen in-turn cut
+      (inr (
+        whole.0,
+        subst (λ (t : List ℕ). AreWholeFrames request_table t (frames_of (cut.rounds ++ cut.before.waiting ∷ [])) whole.0) all-seen whole.1,
+        inl (read, inr (subst (λ (t : List ℕ). IsBadFrame whole.0 ⊎ (most_bytes < length t)) all-seen whole.2)),
+      ))
+  leaves-piece NoMemory stops = λ served entries replies. halted p alone old new answered (bytes ++ take room piece) (drop room piece) line served same entries replies seen in-turn stops
 
 -- a stop in the last round
-module _ (p : Parameters) (alone : Bool) (old new : Ends) (feed : Feeding) (bytes : List ℕ) (line : Line) (same : line.alone ≡ alone) (consumed : Consumes old.source.left new.source.left bytes) where
+module _ (p : Parameters) (alone : Bool) (old new : Ends) (answered : List Frame) (feed : Feeding) (bytes : List ℕ) (line : Line) (same : line.alone ≡ alone)
+    (consumed : Consumes old.source.left new.source.left bytes) (up : IsCaughtUp bytes answered) (why : (NoReadFailed old new × InputEnds old new) ⊎ OneReadFailed old new) where
   all-taken : Consumes old.source.left new.source.left (bytes ++ [])
   all-taken = subst (Consumes old.source.left new.source.left) (sym (append-nil bytes)) consumed
 
-  pub leaves-last : (stop : Stop) → LastStops p old.sink bytes feed line new.sink stop → Leaves p alone old new line.entries line.replies (Err stop)
+  no-piece : (piece : List ℕ) → piece ≡ [] → (NoReadFailed old new × InputEnds old new) ⊎ OneReadFailed old new → NoReadFailed old new ⊎ ((piece ≡ []) × OneReadFailed old new)
+  no-piece piece none (inl ended) = inl ended.0
+  no-piece piece none (inr failed) = inr (none, failed)
+
+  cut-short : (fault : Option Fault) → (NoReadFailed old new × InputEnds old new) ⊎ OneReadFailed old new → IsCutShort old new (bytes ++ []) fault
+  cut-short fault (inl ended) = inl (ended.0, inl ended.1)
+  cut-short fault (inr failed) = inr failed
+
+  at-last : InTurn old new (bytes ++ []) answered
+  at-last = record { before = bytes; piece = []; taken_is = refl; one_read = omega arith; caught_up = up; last_read = no-piece [] refl why }
+
+  pub leaves-last : (stop : Stop) → LastStops p (mark_of old answered) bytes feed line new.sink stop → Leaves p alone old new line.entries line.replies (Err stop)
   leaves-last ReadFault stops = absurd stops
   leaves-last BadInput stops = absurd stops
   leaves-last WriteFault (cut, last) = λ served entries replies.
-      cut_off p alone old new bytes [] line served same entries replies all-taken cut
-      (inr (end_fault feed.fault feed.rest, subst (λ (t : List ℕ). AreWholeFrames request_table t (frames_of (cut.rounds ++ cut.before.waiting ∷ [])) (end_fault feed.fault feed.rest)) (sym (append-nil bytes)) (cut-whole bytes _ feed.rest feed.fault cut.limit last)))
-  leaves-last NoMemory stops = λ served entries replies. halted p alone old new bytes [] line served same entries replies all-taken stops
+      let fault = end_fault feed.fault feed.rest in
+      cut_off p alone old new answered bytes [] line served same entries replies all-taken at-last cut
+      (inr (
+        fault,
+        subst (λ (t : List ℕ). AreWholeFrames request_table t (frames_of (cut.rounds ++ cut.before.waiting ∷ [])) fault) (sym (append-nil bytes)) (cut-whole bytes _ feed.rest feed.fault cut.limit last),
+        cut-short fault why,
+      ))
+  leaves-last NoMemory stops = λ served entries replies. halted p alone old new answered bytes [] line served same entries replies all-taken at-last stops
 
 -- the end of the input, by whether it may end there
-pub leaves-end : (p : Parameters) (alone : Bool) (old new : Ends) (feed : Feeding) (bytes : List ℕ) (line : Line) (r : Result ⊤ Stop) → line.alone ≡ alone → HasAnsweredAll p old.sink bytes feed line new.sink
-    → IsInput old bytes → IfSome old.source.left (λ _. new.source.left ≡ Some []) → new.source.faults ≡ old.source.faults → OnOk r (end_fault feed.fault feed.rest ≡ None)
+pub leaves-end : (p : Parameters) (alone : Bool) (old new : Ends) (answered : List Frame) (feed : Feeding) (bytes : List ℕ) (line : Line) (r : Result ⊤ Stop) → line.alone ≡ alone → HasAnsweredAll p (mark_of old answered) bytes feed line new.sink
+    → IsInput old bytes → InputEnds old new → new.source.faults ≡ old.source.faults → OnOk r (end_fault feed.fault feed.rest ≡ None)
     → IfErr r (λ stop. (stop ≡ BadInput) × IsSome (end_fault feed.fault feed.rest)) → Leaves p alone old new line.entries line.replies r
-leaves-end p alone old new feed bytes line (Ok done) same all told ended read ok err = λ served entries replies. at-end p alone old new feed bytes line served same entries replies all told ended read ok
-leaves-end p alone old new feed bytes line (Err stop) same all told ended read ok err =
+leaves-end p alone old new answered feed bytes line (Ok done) same all told ended read ok err = λ served entries replies. at-end p alone old new answered feed bytes line served same entries replies all told ended read ok
+leaves-end p alone old new answered feed bytes line (Err stop) same all told ended read ok err =
     subst (λ (s : Stop). Leaves p alone old new line.entries line.replies (Err s)) (sym err.0)
-    (λ served entries replies. at-bad_end p alone old new feed bytes line served same entries replies all told read err.1)
+    (λ served entries replies. at-bad_end p alone old new answered feed bytes line served same entries replies all told read err.1)
 
 -- what the last read tells, where it gave nothing
 module _ (old mid new : Option (List ℕ)) (bytes : List ℕ) (n : ℕ) (buf : List ℕ) (none : n ≡ 0) (before : Consumes old mid bytes) (now : Consumes mid new (take n buf)) where
@@ -361,6 +452,13 @@ module _ (old mid new : Option (List ℕ)) (bytes : List ℕ) (n : ℕ) (buf : L
 pub rose_from : (a b c : ℕ) → b ≡ a → c ≡ count_on b → Rose a c
 rose_from a b c same on = let all : count_on b ≡ count_on a = ap count_on same in omega (arith, on, all)
 
+-- one read gives as much as its buffer holds
+pub one-piece : (n : ℕ) (buf : List ℕ) → n ≤ 65536 → length (take n buf) ≤ 65536
+one-piece n buf le = omega (arith, le, length-take n buf)
+
+pub one-failed : (a b c : ℕ) → b ≡ a → c ≡ count_on b → c ≡ count_on a
+one-failed a b c same on = on ∙ ap count_on same
+
 -- A run that begins.
 consumes-nil : (left : Option (List ℕ)) → Consumes left left []
 consumes-nil None = tt
@@ -388,16 +486,34 @@ none-full = record { each = All-nil IsRound; full = All-nil (λ round. IsTrue (i
 -- want of memory before the first read
 pub leaves-new : (p : Parameters) (now : Ends) (line : Line) → IsNew line → Leaves p line.alone now now line.entries line.replies (Err NoMemory)
 leaves-new p now line new = λ served entries replies.
-    halted p line.alone now now [] [] line served refl entries replies (consumes-nil now.source.left) (record {
+    halted p line.alone now now [] [] [] line served refl entries replies (consumes-nil now.source.left) none-read (record {
       limit = omega arith;
       before = line;
       counts = record { alone = refl; entries = refl; replies = refl };
       rounds = [];
       begins = record { rest = []; whole = refl; each = All-nil (IsFrame request_table) };
       full = none-full;
+      goes_on = ([], refl);
       sents = [];
       answered = new-answered p line now.sink new;
     })
+  where
+    none-read : InTurn now now [] []
+    none-read = record {
+      before = [];
+      piece = [];
+      taken_is = refl;
+      one_read = omega arith;
+      caught_up = record {
+        size = omega arith;
+        waiting = [];
+        open_round = open-nil;
+        fault = None;
+        whole = record { rest = []; whole = refl; each = All-nil (IsFrame request_table); first = front-nil; ended = λ _. refl };
+        no_bad_frame = inl refl;
+      };
+      last_read = inl refl;
+    }
 
 -- a feed to which nothing was fed
 none_ready : (feed : Feeding) → HasFed feed [] [] → feed.ready ≡ []
@@ -426,6 +542,7 @@ new-hears p now feed line new fed requests = record {
     full = none-full;
     open_round = subst IsOpen (sym new.none_waits) open-nil;
     size = subst (HasCounted line.size) (sym new.none_waits) new.size;
+    goes_on = ([], refl);
     answered = new-answered p line now.sink new;
   };
   room_is = omega arith;

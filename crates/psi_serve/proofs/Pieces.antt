@@ -10,7 +10,7 @@ use Rattle.psi_frames.specs.Feeds.{Feeding, HasFed}
 use Rattle.psi_serve.specs.declared.stop.Stop.{Stop}
 use Rattle.psi_serve.specs.declared.stop.Stop.TheVariants.{BadInput, ReadFault, WriteFault, NoMemory}
 use Rattle.psi_outside.specs.Ends.{SinkTold}
-use Rattle.psi_serve.specs.Runs.{IsBadPiece, IsHalted, LastStops, Line, PieceStops, Stands, StopsAt}
+use Rattle.psi_serve.specs.Runs.{IsBadPiece, IsHalted, LastStops, Line, Mark, PieceStops, Stands, StopsAt}
 use Rattle.psi_serve.proofs.Going.{halts}
 
 -- a front of a piece is no longer than the room
@@ -18,10 +18,10 @@ length-front : (room : ℕ) (piece : List ℕ) → length (take room piece) ≤ 
 length-front room piece = omega (arith, length-take room piece)
 
 -- more bytes were fed
-pub stands-heard : (p : Parameters) (old : SinkTold) (bytes more : List ℕ) (feed feed' : Feeding) (line : Line) (now : SinkTold) → Stands p old bytes feed line now
+pub stands-heard : (p : Parameters) (mark : Mark) (bytes more : List ℕ) (feed feed' : Feeding) (line : Line) (now : SinkTold) → Stands p mark bytes feed line now
     → ((all : List ℕ) (taken : List Frame) → HasFed feed all taken → HasFed feed' (all ++ more) taken) → feed'.replies ≡ feed.replies → length (bytes ++ more) ≤ most_bytes
-    → Stands p old (bytes ++ more) feed' line now
-stands-heard p old bytes more feed feed' line now stands fed table limit = record {
+    → Stands p mark (bytes ++ more) feed' line now
+stands-heard p mark bytes more feed feed' line now stands fed table limit = record {
   limit = limit;
   rounds = stands.rounds;
   sents = stands.sents;
@@ -30,6 +30,7 @@ stands-heard p old bytes more feed feed' line now stands fed table limit = recor
   full = stands.full;
   open_round = stands.open_round;
   size = stands.size;
+  goes_on = stands.goes_on;
   answered = stands.answered;
 }
 
@@ -37,13 +38,13 @@ pub room-limit : (bytes piece : List ℕ) (room : ℕ) → length bytes + room �
 room-limit bytes piece room e = omega (arith, e, length-append bytes (take room piece), length-front room piece)
 
 -- the whole piece was seen
-pub stands-whole : (p : Parameters) (old : SinkTold) (bytes piece : List ℕ) (room : ℕ) (feed : Feeding) (line : Line) (now : SinkTold) → length piece ≤ room
-    → Stands p old (bytes ++ take room piece) feed line now → Stands p old (bytes ++ piece) feed line now
-stands-whole p old bytes piece room feed line now le stands = subst (λ (t : List ℕ). Stands p old (bytes ++ t) feed line now) (take_all room piece le) stands
+pub stands-whole : (p : Parameters) (mark : Mark) (bytes piece : List ℕ) (room : ℕ) (feed : Feeding) (line : Line) (now : SinkTold) → length piece ≤ room
+    → Stands p mark (bytes ++ take room piece) feed line now → Stands p mark (bytes ++ piece) feed line now
+stands-whole p mark bytes piece room feed line now le stands = subst (λ (t : List ℕ). Stands p mark (bytes ++ t) feed line now) (take_all room piece le) stands
 
 -- what halted behind some bytes has halted behind more
-pub halts-more : (p : Parameters) (old : SinkTold) (bytes more : List ℕ) (line : Line) (now : SinkTold) → length (bytes ++ more) ≤ most_bytes → IsHalted p old bytes line now → IsHalted p old (bytes ++ more) line now
-halts-more p old bytes more line now limit halted = record {
+pub halts-more : (p : Parameters) (mark : Mark) (bytes more : List ℕ) (line : Line) (now : SinkTold) → length (bytes ++ more) ≤ most_bytes → IsHalted p mark bytes line now → IsHalted p mark (bytes ++ more) line now
+halts-more p mark bytes more line now limit halted = record {
   limit = limit;
   before = halted.before;
   counts = halted.counts;
@@ -54,31 +55,32 @@ halts-more p old bytes more line now limit halted = record {
     each = halted.begins.each;
   };
   full = halted.full;
+  goes_on = halted.goes_on;
   sents = halted.sents;
   answered = halted.answered;
 }
 
 -- want of memory for the piece
-pub stops-hear : (p : Parameters) (old : SinkTold) (bytes piece : List ℕ) (room : ℕ) (feed : Feeding) (line : Line) (now : SinkTold) → Stands p old bytes feed line now → length bytes + room ≡ most_bytes
-    → IsHalted p old (bytes ++ take room piece) line now
-stops-hear p old bytes piece room feed line now stands e =
-    halts-more p old bytes (take room piece) line now (room-limit bytes piece room e)
-    (halts p old bytes feed line now stands line now (record { untouched = refl; counts = record { alone = refl; entries = refl; replies = refl } }))
+pub stops-hear : (p : Parameters) (mark : Mark) (bytes piece : List ℕ) (room : ℕ) (feed : Feeding) (line : Line) (now : SinkTold) → Stands p mark bytes feed line now → length bytes + room ≡ most_bytes
+    → IsHalted p mark (bytes ++ take room piece) line now
+stops-hear p mark bytes piece room feed line now stands e =
+    halts-more p mark bytes (take room piece) line now (room-limit bytes piece room e)
+    (halts p mark bytes feed line now stands line now (record { untouched = refl; counts = record { alone = refl; entries = refl; replies = refl } }))
 
 -- a stop within the piece, and one in the last round
-pub stops-drain : (p : Parameters) (old : SinkTold) (bytes piece : List ℕ) (room : ℕ) (feed : Feeding) (line : Line) (now : SinkTold) (stop : Stop) → StopsAt p old (bytes ++ take room piece) line now stop
-    → PieceStops p old bytes piece room feed line now stop
-stops-drain p old bytes piece room feed line now BadInput stops = absurd stops
-stops-drain p old bytes piece room feed line now ReadFault stops = absurd stops
-stops-drain p old bytes piece room feed line now WriteFault stops = (stops.0, inl stops.1)
-stops-drain p old bytes piece room feed line now NoMemory stops = stops
+pub stops-drain : (p : Parameters) (mark : Mark) (bytes piece : List ℕ) (room : ℕ) (feed : Feeding) (line : Line) (now : SinkTold) (stop : Stop) → StopsAt p mark (bytes ++ take room piece) line now stop
+    → PieceStops p mark bytes piece room feed line now stop
+stops-drain p mark bytes piece room feed line now BadInput stops = absurd stops
+stops-drain p mark bytes piece room feed line now ReadFault stops = absurd stops
+stops-drain p mark bytes piece room feed line now WriteFault stops = (stops.0, inl stops.1)
+stops-drain p mark bytes piece room feed line now NoMemory stops = stops
 
-pub stops-piece : (p : Parameters) (old : SinkTold) (bytes piece : List ℕ) (room : ℕ) (feed : Feeding) (line : Line) (now : SinkTold) (stop : Stop) → IsBadPiece feed room piece
-    → LastStops p old (bytes ++ take room piece) feed line now stop → PieceStops p old bytes piece room feed line now stop
-stops-piece p old bytes piece room feed line now BadInput bad stops = absurd stops
-stops-piece p old bytes piece room feed line now ReadFault bad stops = absurd stops
-stops-piece p old bytes piece room feed line now WriteFault bad stops = (stops.0, inr (stops.1, bad))
-stops-piece p old bytes piece room feed line now NoMemory bad stops = stops
+pub stops-piece : (p : Parameters) (mark : Mark) (bytes piece : List ℕ) (room : ℕ) (feed : Feeding) (line : Line) (now : SinkTold) (stop : Stop) → IsBadPiece feed room piece
+    → LastStops p mark (bytes ++ take room piece) feed line now stop → PieceStops p mark bytes piece room feed line now stop
+stops-piece p mark bytes piece room feed line now BadInput bad stops = absurd stops
+stops-piece p mark bytes piece room feed line now ReadFault bad stops = absurd stops
+stops-piece p mark bytes piece room feed line now WriteFault bad stops = (stops.0, inr (stops.1, bad))
+stops-piece p mark bytes piece room feed line now NoMemory bad stops = stops
 
 -- a feed with the same fault
 pub bad-same : (feed feed' : Feeding) (room : ℕ) (piece : List ℕ) → feed'.fault ≡ feed.fault → IsBadPiece feed room piece → IsBadPiece feed' room piece

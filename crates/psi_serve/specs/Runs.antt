@@ -20,7 +20,7 @@ use Rattle.query_pool.specs.declared.round.Served.{Served}
 use Rattle.psi_serve.specs.declared.run.Run.{Run}
 use Rattle.psi_serve.specs.declared.stop.Stop.{Stop}
 use Rattle.psi_serve.specs.declared.stop.Stop.TheVariants.{BadInput, ReadFault, WriteFault, NoMemory}
-use Rattle.psi_serve.specs.Serving.{IsBadInput, IsDone, IsOutOfMemory, IsReadFault, IsWriteFault}
+use Rattle.psi_serve.specs.Serving.{IsBadFrame, IsBadInput, IsDone, IsOpen, IsOutOfMemory, IsReadFault, IsWriteFault}
 
 -- A run: whether it answers as one lane does, its journal, the frames of the round that has begun, their size, and what was counted.
 pub record Line : Type 0 where
@@ -120,9 +120,14 @@ pub record HasAnswered (p : Parameters) (line : Line) (rounds : List (List Frame
   pub entries : line.entries ≡ length line.journal
   pub replies : line.replies ≡ length sents
 
--- frames of which no front is a full round
-abbrev pub IsOpen : List Frame → Type 0
-IsOpen frames = (k : ℕ) → k ≤ length frames → IsFalse (is_full (take k frames))
+-- where a run is seen from: what its sink told then, and the frames that were answered by then
+pub record Mark : Type 0 where
+  pub sink : SinkTold
+  pub answered : List Frame
+
+-- the rounds go on from the frames that were answered by then
+abbrev pub GoOnFrom : Mark → (rounds : List (List Frame)) → Type 0
+GoOnFrom mark rounds = (since : List Frame) × (frames_of rounds ≡ mark.answered ++ since)
 
 -- rounds, each of them full
 pub record AreFull (rounds : List (List Frame)) : Type 0 where
@@ -130,7 +135,7 @@ pub record AreFull (rounds : List (List Frame)) : Type 0 where
   pub full : All (λ round. IsTrue (is_full round)) rounds
 
 -- A run stands behind these bytes of its input: the full rounds of their frames are answered, others wait, and some stand ready in the feed.
-pub record Stands (p : Parameters) (old : SinkTold) (bytes : List ℕ) (feed : Feeding) (line : Line) (now : SinkTold) : Type 0 where
+pub record Stands (p : Parameters) (mark : Mark) (bytes : List ℕ) (feed : Feeding) (line : Line) (now : SinkTold) : Type 0 where
   pub limit : length bytes ≤ most_bytes
   pub rounds : List (List Frame)
   pub sents : List Sent
@@ -139,23 +144,24 @@ pub record Stands (p : Parameters) (old : SinkTold) (bytes : List ℕ) (feed : F
   pub full : AreFull rounds
   pub open_round : IsOpen line.waiting
   pub size : HasCounted line.size line.waiting
-  pub answered : HasAnswered p line rounds sents old now
+  pub goes_on : GoOnFrom mark rounds
+  pub answered : HasAnswered p line rounds sents mark.sink now
 
 -- it does so behind some bytes
 pub record IsStanding (p : Parameters) (feed : Feeding) (line : Line) (now : SinkTold) : Type 0 where
-  pub old : SinkTold
+  pub mark : Mark
   pub bytes : List ℕ
-  pub stands : Stands p old bytes feed line now
+  pub stands : Stands p mark bytes feed line now
 
 -- All whole frames of the bytes are answered.
-pub record HasAnsweredAll (p : Parameters) (old : SinkTold) (bytes : List ℕ) (feed : Feeding) (line : Line) (now : SinkTold) : Type 0 where
+pub record HasAnsweredAll (p : Parameters) (mark : Mark) (bytes : List ℕ) (feed : Feeding) (line : Line) (now : SinkTold) : Type 0 where
   pub limit : length bytes ≤ most_bytes
   pub frames : List Frame
   pub cut : IsCut request_table bytes frames feed.rest feed.fault
   pub rounds : List (List Frame)
   pub are_rounds : AreRounds rounds frames
   pub sents : List Sent
-  pub answered : HasAnswered p line rounds sents old now
+  pub answered : HasAnswered p line rounds sents mark.sink now
 
 -- the bytes begin with these rounds' frames
 pub record BeginWithRounds (bytes : List ℕ) (rounds : List (List Frame)) : Type 0 where
@@ -164,65 +170,67 @@ pub record BeginWithRounds (bytes : List ℕ) (rounds : List (List Frame)) : Typ
   pub each : All (IsFrame request_table) (frames_of rounds)
 
 -- Memory ran out: the rounds before, all full, are answered.
-pub record IsHalted (p : Parameters) (old : SinkTold) (bytes : List ℕ) (line : Line) (now : SinkTold) : Type 0 where
+pub record IsHalted (p : Parameters) (mark : Mark) (bytes : List ℕ) (line : Line) (now : SinkTold) : Type 0 where
   pub limit : length bytes ≤ most_bytes
   pub before : Line
   pub counts : HasCountsOf before line
   pub rounds : List (List Frame)
   pub begins : BeginWithRounds bytes rounds
   pub full : AreFull rounds
+  pub goes_on : GoOnFrom mark rounds
   pub sents : List Sent
-  pub answered : HasAnswered p before rounds sents old now
+  pub answered : HasAnswered p before rounds sents mark.sink now
 
 -- A write failed in a round: the rounds before, all full, are answered, and a front of that round's replies was written.
-pub record IsCutOff (p : Parameters) (old : SinkTold) (bytes : List ℕ) (line : Line) (now : SinkTold) : Type 0 where
+pub record IsCutOff (p : Parameters) (mark : Mark) (bytes : List ℕ) (line : Line) (now : SinkTold) : Type 0 where
   pub limit : length bytes ≤ most_bytes
   pub before : Line
   pub rounds : List (List Frame)
   pub full : AreFull rounds
   pub begins : BeginWithRounds bytes (rounds ++ before.waiting ∷ [])
   pub is_round : IsRound before.waiting
+  pub goes_on : GoOnFrom mark rounds
   pub sents : List Sent
   pub middle : SinkTold
-  pub answered : HasAnswered p before rounds sents old middle
+  pub answered : HasAnswered p before rounds sents mark.sink middle
   pub broken : HasBroken p before line middle now
 
 -- why a run stops within its bytes: where a write failed, the round was full
-abbrev pub StopsAt : Parameters → (old : SinkTold) → (bytes : List ℕ) → Line → (now : SinkTold) → Stop → Type 0
-StopsAt p old bytes line now BadInput = ⊥
-StopsAt p old bytes line now ReadFault = ⊥
-StopsAt p old bytes line now WriteFault = (cut : IsCutOff p old bytes line now) × IsTrue (is_full cut.before.waiting)
-StopsAt p old bytes line now NoMemory = IsHalted p old bytes line now
+abbrev pub StopsAt : Parameters → (mark : Mark) → (bytes : List ℕ) → Line → (now : SinkTold) → Stop → Type 0
+StopsAt p mark bytes line now BadInput = ⊥
+StopsAt p mark bytes line now ReadFault = ⊥
+StopsAt p mark bytes line now WriteFault = (cut : IsCutOff p mark bytes line now) × IsTrue (is_full cut.before.waiting)
+StopsAt p mark bytes line now NoMemory = IsHalted p mark bytes line now
 
 -- the round in which the write failed has the last whole frames of the bytes
 abbrev pub IsLast : (bytes : List ℕ) → Feeding → (rounds : List (List Frame)) → (round : List Frame) → Type 0
 IsLast bytes feed rounds round = IsCut request_table bytes (frames_of (rounds ++ round ∷ [])) feed.rest feed.fault
 
 -- why a run stops in its last round
-abbrev pub LastStops : Parameters → (old : SinkTold) → (bytes : List ℕ) → Feeding → Line → (now : SinkTold) → Stop → Type 0
-LastStops p old bytes feed line now BadInput = ⊥
-LastStops p old bytes feed line now ReadFault = ⊥
-LastStops p old bytes feed line now WriteFault = (cut : IsCutOff p old bytes line now) × IsLast bytes feed cut.rounds cut.before.waiting
-LastStops p old bytes feed line now NoMemory = IsHalted p old bytes line now
+abbrev pub LastStops : Parameters → (mark : Mark) → (bytes : List ℕ) → Feeding → Line → (now : SinkTold) → Stop → Type 0
+LastStops p mark bytes feed line now BadInput = ⊥
+LastStops p mark bytes feed line now ReadFault = ⊥
+LastStops p mark bytes feed line now WriteFault = (cut : IsCutOff p mark bytes line now) × IsLast bytes feed cut.rounds cut.before.waiting
+LastStops p mark bytes feed line now NoMemory = IsHalted p mark bytes line now
 
 -- it stands behind some bytes, and so many bytes more are looked at
 pub record IsStandingAt (p : Parameters) (room : ℕ) (feed : Feeding) (line : Line) (now : SinkTold) : Type 0 where
-  pub old : SinkTold
+  pub mark : Mark
   pub bytes : List ℕ
-  pub stands : Stands p old bytes feed line now
+  pub stands : Stands p mark bytes feed line now
   pub room_is : length bytes + room ≡ most_bytes
 
 -- the feed met a fault, or the piece has more bytes than are looked at
 abbrev pub IsBadPiece : Feeding → (room : ℕ) → (piece : List ℕ) → Type 0
-IsBadPiece feed room piece = ((fault : Fault) × (feed.fault ≡ Some fault) × (fault ≡ Fault.Short → ⊥)) ⊎ (room < length piece)
+IsBadPiece feed room piece = IsBadFrame feed.fault ⊎ (room < length piece)
 
 -- why a run stops behind a piece more
-abbrev pub PieceStops : Parameters → (old : SinkTold) → (bytes piece : List ℕ) → (room : ℕ) → Feeding → Line → (now : SinkTold) → Stop → Type 0
-PieceStops p old bytes piece room feed line now BadInput = HasAnsweredAll p old (bytes ++ take room piece) feed line now × IsBadPiece feed room piece
-PieceStops p old bytes piece room feed line now ReadFault = ⊥
-PieceStops p old bytes piece room feed line now WriteFault =
-    (cut : IsCutOff p old (bytes ++ take room piece) line now) × (IsTrue (is_full cut.before.waiting) ⊎ (IsLast (bytes ++ take room piece) feed cut.rounds cut.before.waiting × IsBadPiece feed room piece))
-PieceStops p old bytes piece room feed line now NoMemory = IsHalted p old (bytes ++ take room piece) line now
+abbrev pub PieceStops : Parameters → (mark : Mark) → (bytes piece : List ℕ) → (room : ℕ) → Feeding → Line → (now : SinkTold) → Stop → Type 0
+PieceStops p mark bytes piece room feed line now BadInput = HasAnsweredAll p mark (bytes ++ take room piece) feed line now × IsBadPiece feed room piece
+PieceStops p mark bytes piece room feed line now ReadFault = ⊥
+PieceStops p mark bytes piece room feed line now WriteFault =
+    (cut : IsCutOff p mark (bytes ++ take room piece) line now) × (IsTrue (is_full cut.before.waiting) ⊎ (IsLast (bytes ++ take room piece) feed cut.rounds cut.before.waiting × IsBadPiece feed room piece))
+PieceStops p mark bytes piece room feed line now NoMemory = IsHalted p mark (bytes ++ take room piece) line now
 
 -- a run that begins: nothing was answered, and nothing waits
 pub record IsNew (line : Line) : Type 0 where
@@ -232,10 +240,14 @@ pub record IsNew (line : Line) : Type 0 where
   pub entries : line.entries ≡ 0
   pub replies : line.replies ≡ 0
 
+-- a run seen from its beginning
+abbrev pub first_mark : Ends → Mark
+first_mark begun = record { sink = begun.sink; answered = [] }
+
 -- The run has read some bytes of its input: it stands behind them, no frame stands ready, no fault was met, and no read failed.
 pub record IsHearing (p : Parameters) (begun now : Ends) (feed : Feeding) (line : Line) (room : ℕ) : Type 0 where
   pub bytes : List ℕ
-  pub stands : Stands p begun.sink bytes feed line now.sink
+  pub stands : Stands p (first_mark begun) bytes feed line now.sink
   pub room_is : length bytes + room ≡ most_bytes
   pub none_ready : feed.ready ≡ []
   pub faultless : feed.fault ≡ None

@@ -6,10 +6,11 @@ ghost use Rattle.psi_frames.specs.Frames.{IsFrame, most_bytes, request_table};
 ghost use Rattle.psi_frames.specs.declared.frame.Frame.{Frame};
 ghost use Rattle.psi_frames.specs.Rounds.{IsRound};
 ghost use Rattle.psi_frames.specs.Feeds.{Feeding, HasFed, end_fault};
-ghost use Rattle.psi_outside.specs.Ends.{SinkTold, ends};
+ghost use Rattle.psi_outside.specs.Ends.{ends};
 ghost use Rattle.psi_serve.specs.declared.stop.Stop.TheVariants.{BadInput};
 ghost use Rattle.psi_frames.specs.RoundSizes.{IsSizeOf};
-ghost use Rattle.psi_serve.specs.Runs.{HasAnsweredAll, HasGoneOn, IsBadPiece, IsNew, IsOpen, IsStanding, IsStandingAt, LastStops, Leaves, PieceStops, RoundStops, TakeStops, Takes, Stands, StopsAt, line_of};
+ghost use Rattle.psi_serve.specs.Serving.{IsOpen};
+ghost use Rattle.psi_serve.specs.Runs.{HasAnsweredAll, HasGoneOn, IsBadPiece, IsNew, IsStanding, IsStandingAt, LastStops, Leaves, Mark, PieceStops, RoundStops, TakeStops, Takes, Stands, StopsAt, line_of};
 
 use crate::answers::Answers;
 use crate::stop::Stop;
@@ -124,10 +125,10 @@ impl<A: Answers> Run<A> {
         requires passed { ArePassed (parameters_of params.now) }
         requires under { A.is_under self.old.answers (parameters_of params.now) }
         requires standing { IsStanding (parameters_of params.now) feed.old (line_of A.alone A.journal self.old) (K.told sink.old) }
-        ensures goes { OnOk result ((old : SinkTold) (bytes : List ℕ) → Stands (parameters_of params.now) old bytes feed.old (line_of A.alone A.journal self.old) (K.told sink.old)
-            → Stands (parameters_of params.now) old bytes feed.new (line_of A.alone A.journal self.new) (K.told sink.new)) }
-        ensures stops { IfErr result (λ stop. (old : SinkTold) (bytes : List ℕ) → Stands (parameters_of params.now) old bytes feed.old (line_of A.alone A.journal self.old) (K.told sink.old)
-            → StopsAt (parameters_of params.now) old bytes (line_of A.alone A.journal self.new) (K.told sink.new) stop) }
+        ensures goes { OnOk result ((mark : Mark) (bytes : List ℕ) → Stands (parameters_of params.now) mark bytes feed.old (line_of A.alone A.journal self.old) (K.told sink.old)
+            → Stands (parameters_of params.now) mark bytes feed.new (line_of A.alone A.journal self.new) (K.told sink.new)) }
+        ensures stops { IfErr result (λ stop. (mark : Mark) (bytes : List ℕ) → Stands (parameters_of params.now) mark bytes feed.old (line_of A.alone A.journal self.old) (K.told sink.old)
+            → StopsAt (parameters_of params.now) mark bytes (line_of A.alone A.journal self.new) (K.told sink.new) stop) }
         ensures taken { OnOk result (feed.new.ready ≡ []) }
         ensures fault { OnOk result (feed.new.fault ≡ feed.old.fault) }
         ensures under { A.is_under self.new.answers (parameters_of params.now) }
@@ -149,10 +150,10 @@ impl<A: Answers> Run<A> {
         requires passed { ArePassed (parameters_of params.now) }
         requires under { A.is_under self.old.answers (parameters_of params.now) }
         requires standing { (feed : Feeding) × IsStanding (parameters_of params.now) feed (line_of A.alone A.journal self.old) (K.told sink.old) }
-        ensures all { OnOk result ((old : SinkTold) (bytes : List ℕ) (feed : Feeding) → feed.ready ≡ [] → Stands (parameters_of params.now) old bytes feed (line_of A.alone A.journal self.old) (K.told sink.old)
-            → HasAnsweredAll (parameters_of params.now) old bytes feed (line_of A.alone A.journal self.new) (K.told sink.new)) }
-        ensures stops { IfErr result (λ stop. (old : SinkTold) (bytes : List ℕ) (feed : Feeding) → feed.ready ≡ [] → Stands (parameters_of params.now) old bytes feed (line_of A.alone A.journal self.old) (K.told sink.old)
-            → LastStops (parameters_of params.now) old bytes feed (line_of A.alone A.journal self.new) (K.told sink.new) stop) }
+        ensures all { OnOk result ((mark : Mark) (bytes : List ℕ) (feed : Feeding) → feed.ready ≡ [] → Stands (parameters_of params.now) mark bytes feed (line_of A.alone A.journal self.old) (K.told sink.old)
+            → HasAnsweredAll (parameters_of params.now) mark bytes feed (line_of A.alone A.journal self.new) (K.told sink.new)) }
+        ensures stops { IfErr result (λ stop. (mark : Mark) (bytes : List ℕ) (feed : Feeding) → feed.ready ≡ [] → Stands (parameters_of params.now) mark bytes feed (line_of A.alone A.journal self.old) (K.told sink.old)
+            → LastStops (parameters_of params.now) mark bytes feed (line_of A.alone A.journal self.new) (K.told sink.new) stop) }
         ensures under { A.is_under self.new.answers (parameters_of params.now) }
         ensures alone { A.alone self.new.answers ≡ A.alone self.old.answers }
     {
@@ -176,13 +177,13 @@ impl<A: Answers> Run<A> {
         requires passed { ArePassed (parameters_of params.now) }
         requires under { A.is_under self.old.answers (parameters_of params.now) }
         requires standing { IsStandingAt (parameters_of params.now) room feed.old (line_of A.alone A.journal self.old) (K.told sink.old) }
-        ensures goes { OnOk result ((old : SinkTold) (bytes : List ℕ) → Stands (parameters_of params.now) old bytes feed.old (line_of A.alone A.journal self.old) (K.told sink.old) → length bytes + room ≡ most_bytes
-            → Stands (parameters_of params.now) old (bytes ++ piece.now) feed.new (line_of A.alone A.journal self.new) (K.told sink.new)) }
+        ensures goes { OnOk result ((mark : Mark) (bytes : List ℕ) → Stands (parameters_of params.now) mark bytes feed.old (line_of A.alone A.journal self.old) (K.told sink.old) → length bytes + room ≡ most_bytes
+            → Stands (parameters_of params.now) mark (bytes ++ piece.now) feed.new (line_of A.alone A.journal self.new) (K.told sink.new)) }
         ensures left { IfOk result (λ left. length piece.now + left ≡ room) }
         ensures faultless { OnOk result (feed.new.fault ≡ None) }
         ensures taken { OnOk result (feed.new.ready ≡ []) }
-        ensures stops { IfErr result (λ stop. (old : SinkTold) (bytes : List ℕ) → Stands (parameters_of params.now) old bytes feed.old (line_of A.alone A.journal self.old) (K.told sink.old) → length bytes + room ≡ most_bytes
-            → PieceStops (parameters_of params.now) old bytes piece.now room feed.new (line_of A.alone A.journal self.new) (K.told sink.new) stop) }
+        ensures stops { IfErr result (λ stop. (mark : Mark) (bytes : List ℕ) → Stands (parameters_of params.now) mark bytes feed.old (line_of A.alone A.journal self.old) (K.told sink.old) → length bytes + room ≡ most_bytes
+            → PieceStops (parameters_of params.now) mark bytes piece.now room feed.new (line_of A.alone A.journal self.new) (K.told sink.new) stop) }
         ensures under { A.is_under self.new.answers (parameters_of params.now) }
         ensures alone { A.alone self.new.answers ≡ A.alone self.old.answers }
     {

@@ -16,7 +16,7 @@ loop-frame-preserved g c =
     let inv = c.loop-frame.invariant in
     let takes = c.in_ok-take_frame.ensures.takes in
     record {
-      standing = record { old = inv.standing.old; bytes = inv.standing.bytes; stands = stands-take _ _ _ _ _ _ _ _ _ _ inv.standing.stands c.in-Some.ensures.taken c.in-Some.ensures.fed takes };
+      standing = record { mark = inv.standing.mark; bytes = inv.standing.bytes; stands = stands-take _ _ _ _ _ _ _ _ _ _ inv.standing.stands c.in-Some.ensures.taken c.in-Some.ensures.fed takes };
       goes = λ begun bytes stands. stands-take _ begun bytes _ _ _ _ _ _ _ (inv.goes begun bytes stands) c.in-Some.ensures.taken c.in-Some.ensures.fed takes;
       fault = sym (ap (λ (f : Feeding). f.fault) c.in-Some.ensures.taken) ∙ inv.fault;
       under = c.take_frame.ensures.under;

@@ -1,8 +1,8 @@
-use Rattle.std.proofs.Common.{◌∙◌, ◌++◌, length-append, take, arith, refl}
+use Rattle.std.proofs.Common.{◌∙◌, ◌++◌, length-append, take, arith, inl, inr, refl}
 use Rattle.std.proofs.KnownBytes.{Consumes-kept, Consumes-trans}
 use Rattle.std.proofs.lemmas.Result.{err_from_is_err_and}
 use Rattle.noise_ledger.specs.Verdicts.{parameters_of}
-use Rattle.psi_serve.proofs.Leaving.{at-read_fault, end-consumed, end-left, end-told, leaves-end, leaves-last, leaves-new, leaves-piece, new-hears, rose_from}
+use Rattle.psi_serve.proofs.Leaving.{at-read_fault, caught-up, end-consumed, end-left, end-told, leaves-end, leaves-last, leaves-new, leaves-piece, new-hears, one-failed, one-piece, rose_from, stands-here}
 use Rattle.psi_serve.proofs.run.Run.serve_all.Goals as goal
 
 pub returns-in_err-feed : goal.returns-in_err-feed
@@ -41,16 +41,18 @@ returns-in_err-last_round-in-Ok-eq0 g c =
     let h = c.loop-self.invariant.hearing in
     let exit = err_from_is_err_and c.from_residual-in_err-last_round-in-Ok-eq0.result c.from_residual-in_err-last_round-in-Ok-eq0.ensures.1 in
     rw (exit.1, exit.2)
-    (leaves-last (parameters_of c.args.params.now) _ _ _ c.loop-self.feed h.bytes _ (c.last_round.ensures.alone ∙ c.loop-self.invariant.alone)
-    (end-consumed _ _ _ h.bytes _ c.read.new.buf c.in-Ok-eq0.field-0-test h.consumed c.in-Ok-eq0.ensures.bytes.0) _
-    (c.in_err-last_round-in-Ok-eq0.ensures.stops _ h.bytes c.loop-self.feed h.none_ready h.stands))
+    (leaves-last (parameters_of c.args.params.now) _ _ _ _ c.loop-self.feed h.bytes _ (c.last_round.ensures.alone ∙ c.loop-self.invariant.alone)
+    (end-consumed _ _ _ h.bytes _ c.read.new.buf c.in-Ok-eq0.field-0-test h.consumed c.in-Ok-eq0.ensures.bytes.0)
+    (caught-up _ _ h.bytes _ _ _ h.stands h.none_ready h.faultless)
+    (inl (c.in-Ok-eq0.ensures.cause.kept ∙ h.no_read_failed, end-left _ _ _ h.bytes _ c.read.new.buf c.in-Ok-eq0.field-0-test h.consumed c.in-Ok-eq0.ensures.bytes.0 c.in-Ok-eq0.ensures.end)) _
+    (c.in_err-last_round-in-Ok-eq0.ensures.stops _ h.bytes c.loop-self.feed h.none_ready (stands-here _ _ h.bytes _ _ _ h.stands)))
 
 pub returns-in-Ok-eq0 : goal.returns-in-Ok-eq0
 returns-in-Ok-eq0 g c =
     let h = c.loop-self.invariant.hearing in
     let none = c.in-Ok-eq0.field-0-test in
     let last = c.in-Ok-eq0.ensures.bytes.0 in
-    leaves-end (parameters_of c.args.params.now) _ _ _ c.loop-self.feed h.bytes _ c.end.result (c.last_round.ensures.alone ∙ c.loop-self.invariant.alone)
+    leaves-end (parameters_of c.args.params.now) _ _ _ _ c.loop-self.feed h.bytes _ c.end.result (c.last_round.ensures.alone ∙ c.loop-self.invariant.alone)
     (c.in_ok-last_round-in-Ok-eq0.ensures.all _ h.bytes c.loop-self.feed h.none_ready h.stands)
     (end-told _ _ _ h.bytes _ c.read.new.buf none h.consumed last c.in-Ok-eq0.ensures.end)
     (end-left _ _ _ h.bytes _ c.read.new.buf none h.consumed last c.in-Ok-eq0.ensures.end)
@@ -62,23 +64,27 @@ returns-in_err-room-in-Ok g c =
     let piece = take c.in-Ok.count c.read.new.buf in
     let exit = err_from_is_err_and c.from_residual-in_err-room-in-Ok.result c.from_residual-in_err-room-in-Ok.ensures.1 in
     rw (exit.1, exit.2)
-    (leaves-piece (parameters_of c.args.params.now) _ _ _ c.take_piece.new.feed h.bytes piece c.loop-self.room _ (c.take_piece.ensures.alone ∙ c.loop-self.invariant.alone) h.room_is
-    (Consumes-trans _ _ _ h.bytes piece h.consumed c.in-Ok.ensures.bytes.0) (c.in-Ok.ensures.cause.kept ∙ h.no_read_failed) _
-    (c.in_err-room-in-Ok.ensures.stops _ h.bytes h.stands h.room_is))
+    (leaves-piece (parameters_of c.args.params.now) _ _ _ _ c.take_piece.new.feed h.bytes piece c.loop-self.room _ (c.take_piece.ensures.alone ∙ c.loop-self.invariant.alone) h.room_is
+    (Consumes-trans _ _ _ h.bytes piece h.consumed c.in-Ok.ensures.bytes.0) (c.in-Ok.ensures.cause.kept ∙ h.no_read_failed)
+    (one-piece c.in-Ok.count c.read.new.buf (omega (arith, c.in-Ok.ensures.bound, c.read.auto.buf)))
+    (caught-up _ _ h.bytes _ _ _ h.stands h.none_ready h.faultless) _
+    (c.in_err-room-in-Ok.ensures.stops _ h.bytes (stands-here _ _ h.bytes _ _ _ h.stands) h.room_is))
 
 pub returns-in_err-last_round-in-Err : goal.returns-in_err-last_round-in-Err
 returns-in_err-last_round-in-Err g c =
     let h = c.loop-self.invariant.hearing in
     let exit = err_from_is_err_and c.from_residual-in_err-last_round-in-Err.result c.from_residual-in_err-last_round-in-Err.ensures.1 in
     rw (exit.1, exit.2)
-    (leaves-last (parameters_of c.args.params.now) _ _ _ c.loop-self.feed h.bytes _ (c.last_round-in-Err.ensures.alone ∙ c.loop-self.invariant.alone)
-    (Consumes-kept _ _ _ h.bytes h.consumed c.in-Err.ensures.refused) _
-    (c.in_err-last_round-in-Err.ensures.stops _ h.bytes c.loop-self.feed h.none_ready h.stands))
+    (leaves-last (parameters_of c.args.params.now) _ _ _ _ c.loop-self.feed h.bytes _ (c.last_round-in-Err.ensures.alone ∙ c.loop-self.invariant.alone)
+    (Consumes-kept _ _ _ h.bytes h.consumed c.in-Err.ensures.refused)
+    (caught-up _ _ h.bytes _ _ _ h.stands h.none_ready h.faultless)
+    (inr (one-failed _ _ _ h.no_read_failed c.in-Err.ensures.cause.failed)) _
+    (c.in_err-last_round-in-Err.ensures.stops _ h.bytes c.loop-self.feed h.none_ready (stands-here _ _ h.bytes _ _ _ h.stands)))
 
 pub returns-in-Err : goal.returns-in-Err
 returns-in-Err g c =
     let h = c.loop-self.invariant.hearing in
     λ served entries replies.
-    at-read_fault (parameters_of c.args.params.now) _ _ _ c.loop-self.feed h.bytes _ served (c.last_round-in-Err.ensures.alone ∙ c.loop-self.invariant.alone) entries replies
+    at-read_fault (parameters_of c.args.params.now) _ _ _ _ c.loop-self.feed h.bytes _ served (c.last_round-in-Err.ensures.alone ∙ c.loop-self.invariant.alone) entries replies
     (c.in_ok-last_round-in-Err.ensures.all _ h.bytes c.loop-self.feed h.none_ready h.stands) h.faultless
     (Consumes-kept _ _ _ h.bytes h.consumed c.in-Err.ensures.refused) (rose_from _ _ _ h.no_read_failed c.in-Err.ensures.cause.failed)

@@ -10,7 +10,7 @@ returns-in_err-is_good-clause-stops g c =
 pub drain-requires-clause-standing : goal.drain-requires-clause-standing
 drain-requires-clause-standing g c =
     let s = c.requires.standing in
-    record { old = s.old; bytes = _; stands = stands-heard _ s.old s.bytes _ _ _ _ _ s.stands c.in_ok-is_good.ensures.fed c.hear.ensures.table (room-limit s.bytes c.args.piece.now c.args.room s.room_is) }
+    record { mark = s.mark; bytes = _; stands = stands-heard _ s.mark s.bytes _ _ _ _ _ s.stands c.in_ok-is_good.ensures.fed c.hear.ensures.table (room-limit s.bytes c.args.piece.now c.args.room s.room_is) }
 
 pub returns-in_err-drain-clause-stops : goal.returns-in_err-drain-clause-stops
 returns-in_err-drain-clause-stops g c =
@@ -27,8 +27,8 @@ returns-then-is_good-clause-goes g c = λ old bytes stands e.
 pub last_round-requires-clause-standing : goal.last_round-requires-clause-standing
 last_round-requires-clause-standing g c =
     let s = c.requires.standing in
-    let heard = stands-heard _ s.old s.bytes _ _ _ _ _ s.stands c.in_ok-is_good.ensures.fed c.hear.ensures.table (room-limit s.bytes c.args.piece.now c.args.room s.room_is) in
-    (_, record { old = s.old; bytes = _; stands = c.in_ok-drain.ensures.goes s.old _ heard })
+    let heard = stands-heard _ s.mark s.bytes _ _ _ _ _ s.stands c.in_ok-is_good.ensures.fed c.hear.ensures.table (room-limit s.bytes c.args.piece.now c.args.room s.room_is) in
+    (_, record { mark = s.mark; bytes = _; stands = c.in_ok-drain.ensures.goes s.mark _ heard })
 
 pub returns-in_err-last_round-clause-stops : goal.returns-in_err-last_round-clause-stops
 returns-in_err-last_round-clause-stops g c =
