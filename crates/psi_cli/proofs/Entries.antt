@@ -17,80 +17,11 @@ use Rattle.psi_bundle.specs.Versions.{empty_version}
 use Rattle.psi_frames.specs.declared.request.Request.{Request}
 use Rattle.psi_frames.specs.Requests.{call_of}
 use Rattle.psi_frames.specs.Served.{Exchange, IsRecorded, IsServed, Sent, all_places, exchanges, from_or_zero, place_of, places_in, places_of_round, requests_of}
+use Rattle.psi_frames.proofs.FirstRounds.{first-rounds}
 use Rattle.psi_frames.proofs.Following.{before}
 use Rattle.psi_frames.proofs.Placed.{places-every, tells_answer}
-use Rattle.psi_serve.proofs.Renumbered.{requests-each, rounds-below}
+use Rattle.psi_frames.proofs.Renumbered.{requests-each, rounds-below}
 use Rattle.psi_cli.proofs.Fitting.{IsTaken, taken-call}
-
--- ---- places
-
--- what holds of each place of the exchanges holds of the places of some rounds
-each-places : (P : ℕ → Type 0) (keep : ℕ → Bool) (es : List Exchange) → AllByRecursion (λ e. (x : ℕ) → place_of e.reply ≡ Some x → P x) es → AllByRecursion P (places_in keep es)
-each-places P keep [] h = tt
-each-places P keep (e ∷ es) h = by_place (keep e.round) refl (place_of e.reply) refl (each-places P keep es h.1) where
-  by_place : (b : Bool) → keep e.round ≡ b → (o : Option ℕ) → place_of e.reply ≡ o → AllByRecursion P (places_in keep es) → AllByRecursion P (places_in keep (e ∷ es))
-  by_place false is o place rest = rw is rest
-  by_place true is None place rest = rw (is, place) rest
-  by_place true is (Some x) place rest = rw (is, place) (h.0 x place, rest)
-
-length-cons_option : (o : Option ℕ) (xs : List ℕ) → length (cons_option o xs) ≡ length (cons_option o []) + length xs
-length-cons_option None xs = omega arith
-length-cons_option (Some x) xs = omega arith
-
--- the places before the next round are those before this one, and those of this one
-before-more : (k : ℕ) (es : List Exchange) → length (before (k + 1) es) ≡ length (before k es) + length (places_of_round k es)
-before-more k [] = refl
-before-more k (e ∷ es) =
-    let rest = before-more k es in
-    let o = place_of e.reply in
-    elim (cases_lt e.round k) [
-      | inl below ↦
-          let a : nat_lt e.round (k + 1) ≡ true = grind (arith, nat_tests) in
-          let b : nat_lt e.round k ≡ true = grind (arith, nat_tests) in
-          let c : nat_eq k e.round ≡ false = grind (arith, nat_tests) in
-          rw (a, b, c) (omega (arith, rest, length-cons_option o (before (k + 1) es), length-cons_option o (before k es)))
-      | inr from ↦ elim (cases_lt k e.round) [
-        | inl above ↦
-            let a : nat_lt e.round (k + 1) ≡ false = grind (arith, nat_tests) in
-            let b : nat_lt e.round k ≡ false = grind (arith, nat_tests) in
-            let c : nat_eq k e.round ≡ false = grind (arith, nat_tests) in
-            rw (a, b, c) rest
-        | inr here ↦
-            let a : nat_lt e.round (k + 1) ≡ true = grind (arith, nat_tests) in
-            let b : nat_lt e.round k ≡ false = grind (arith, nat_tests) in
-            let c : nat_eq k e.round ≡ true = grind (arith, nat_tests) in
-            rw (a, b, c) (omega (arith, rest, length-cons_option o (before (k + 1) es), length-cons_option o (places_of_round k es)))
-      ]
-    ]
-
-before-none : (es : List Exchange) → before 0 es ≡ []
-before-none [] = refl
-before-none (e ∷ es) = let b : nat_lt e.round 0 ≡ false = grind (arith, nat_tests) in rw b (before-none es)
-
--- the numbers of a range
-in_range : (P : ℕ → Type 0) (base n j : ℕ) → All P (range_with_len base n) → base ≤ j → j < base + n → P j
-in_range P base n j h low high =
-    let at : get_or (range_with_len base n) (j - base) 0 ≡ j = get_or-range_with_len base n (j - base) 0 (omega arith) ∙ omega arith in
-    subst P at (h (j - base) 0 (omega (arith, length-range_with_len base n)))
-
--- where the places of each round follow on from 0, what holds of each place of the exchanges holds of every number below the places of
--- the first rounds
-module _ (P : ℕ → Type 0) (es : List Exchange) (few : ℕ → ℕ) (h : AllByRecursion (λ e. (x : ℕ) → place_of e.reply ≡ Some x → P x) es) where
-  pub first-rounds : (n rounds : ℕ) → ((k : ℕ) → k < rounds → IsPermutation (places_of_round k es) (range_with_len (0 + length (before k es)) (few k))) → n ≤ rounds
-      → (j : ℕ) → j < length (before n es) → P j
-  first-rounds zero rounds follow le j lt = absurd (omega (arith, ap length (before-none es)))
-  first-rounds (suc n) rounds follow le j lt =
-      let base = length (before n es) in
-      let moves = follow n (omega arith) in
-      let size : length (places_of_round n es) ≡ few n = sym (length_permutation (places_of_round n es) (range_with_len (0 + base) (few n)) moves) ∙ length-range_with_len (0 + base) (few n) in
-      let more = before-more n es in
-      let lt_more : j < length (before (n + 1) es) = rw add-one lt in
-      elim (cases_lt j base) [
-        | inl below ↦ first-rounds n rounds follow (omega arith) j below
-        | inr from ↦
-            let all = All-permutation P (places_of_round n es) (range_with_len (0 + base) (few n)) moves (All-from_recursion P (places_of_round n es) (each-places P (nat_eq n) es h)) in
-            in_range P (0 + base) (few n) j all (omega arith) (omega (arith, more, size, lt_more))
-      ]
 
 -- ---- entries
 
@@ -131,4 +62,4 @@ entries-taken p history rounds sents taken served k d lt =
     let each = both p history es (requests-each (IsTaken p) rounds sents taken) (recursion_from_All (IsRecorded history) es of.recorded) in
     let all : before (length rounds) es ≡ all_places es = places-every (λ round. nat_lt round (length rounds)) es (below_all (length rounds) es (rounds-below rounds sents)) in
     let size : k < length (before (length rounds) es) = omega (arith, of.no_others, ap length all, lt) in
-    first-rounds (IsEntryTaken p history) es _ each (length rounds) (length rounds) served.served.placed.places (omega arith) k size (get_or history k d) (slice_get-get_or history k d lt)
+    first-rounds (IsEntryTaken p history) 0 es _ each (length rounds) (length rounds) served.served.placed.places (omega arith) k (omega arith) size (get_or history k d) (slice_get-get_or history k d lt)

@@ -53,7 +53,7 @@ IfOneLane _ P = ⊤
 pub record IsOneLaneAnswer (p : Parameters) (bytes text : List ℕ) : Type 0 where
   pub frames : List Frame
   pub whole : AreWholeFrames request_table bytes frames None
-  pub one_lane : IsOneLaneTextOf p frames text
+  pub one_lane : IsOneLaneTextOf p (empty_version p) [] frames text
 
 -- an input that is no whole frames: it has a bad frame, ends within a frame, or is too long
 pub record AreBadFrames (bytes : List ℕ) : Type 0 where

@@ -13,8 +13,8 @@ use Rattle.psi_cli.specs.Worlds.{Held, IsCutOff, IsUntouched, IsWritten}
 
 -- The text of replies serves these frames from the empty set; it is that of one lane where there is one worker.
 pub record ServesFrames (workers : ℕ) (frames : List Frame) (replies : List ℕ) : Type 0 where
-  pub serving : IsServingTextOf demo_parameters frames replies
-  pub one_lane : workers ≡ 1 → IsOneLaneTextOf demo_parameters frames replies
+  pub serving : IsServingTextOf demo_parameters (empty_version demo_parameters) [] frames replies
+  pub one_lane : workers ≡ 1 → IsOneLaneTextOf demo_parameters (empty_version demo_parameters) [] frames replies
 
 -- The text is the summary of replies that serve the script of a number.
 pub record IsDemonstration (number workers : ℕ) (text : List ℕ) : Type 0 where

@@ -18,3 +18,9 @@ pub mod Counting
 pub mod Readings
 pub mod RoundRequests
 pub mod ReplyLaws
+pub mod Sending
+pub mod FirstRounds
+pub mod Pairs
+pub mod Places
+pub mod Renumbered
+pub mod Joins

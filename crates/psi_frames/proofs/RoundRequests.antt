@@ -2,7 +2,7 @@
 use Rattle.std.proofs.Common.{◌≡◌, ℕ, suc, ◌+◌, ◌-◌, ◌*◌, ◌<◌, ◌≤◌, Bool, true, false, not, ◌||◌, nat_eq, nat_lt, nat_le, List, [], ◌∷◌, ◌++◌, length, take, drop, slice_index, Option, None, Some, IfSome, refl, sym, ap, ◌∙◌, arith, append_assoc, if◌then◌else◌}
 use Rattle.std.proofs.lemmas.Bool.{eqb-true, ltb-true, leb-false}
 use Rattle.std.proofs.lemmas.List.{append-nil, length-take-le}
-use Rattle.std.proofs.lemmas.List.Elements.{All-cons, All-nil}
+use Rattle.std.proofs.lemmas.List.Elements.{All-append, All-cons, All-nil, All-weaker}
 use Rattle.std.proofs.lemmas.List.Sums.{sum_by-cons}
 use Rattle.std.proofs.lemmas.List.FromFn.{length-map-range_with_len}
 use Rattle.std.specs.List.{All, list_any}
@@ -17,12 +17,14 @@ use Rattle.psi_frames.specs.declared.frame.Frame.{Frame}
 use Rattle.psi_frames.specs.declared.request.Request.{Request}
 use Rattle.psi_frames.specs.declared.request.Request.TheVariants as request
 use Rattle.psi_frames.specs.Frames.{ask_kind, drop_kind, go_kind, put_kind}
-use Rattle.psi_frames.specs.Requests.{IsFit, ask_code, ask_request, asks_behind, asks_of_round, code_of_fault, count_asks, counted, drop_code, drop_request, has_item, is_ask, item_of, put_label, put_code, put_request, repack_code, repack_request, request_of, requests_from, unless_coded, wrong_label, wrong_length, wrong_row}
-use Rattle.psi_frames.specs.Rounds.{IsRound, is_full, is_go}
+use Rattle.psi_frames.specs.OneLane.{HasByteCode}
+use Rattle.psi_frames.specs.Requests.{IsFit, ask_code, ask_request, asks_after, asks_behind, asks_of_round, code_of_fault, count_asks, counted, drop_code, drop_request, has_item, is_ask, item_of, put_label, put_code, put_request, repack_code, repack_request, request_of, requests_from, too_many_asks, unless_coded, wrong_label, wrong_length, wrong_row}
+use Rattle.psi_frames.specs.Rounds.{IsRound, frames_of_round, is_full, is_go, request_rounds}
+use Rattle.psi_frames.specs.Served.{requests_of}
 
 -- a code that the bytes of a round decide
 abbrev IsByteCode : ℕ → Type 0
-IsByteCode code = (1 ≤ code) × (code ≤ 6)
+IsByteCode code = (wrong_length ≤ code) × (code ≤ too_many_asks)
 
 -- a request fits, where it does without its code
 fit-unless : (p : Parameters) (o : Option ℕ) (f : Frame) (r : Request) → IfSome o IsByteCode → (o ≡ None → IsFit p r) → IsFit p (unless_coded o f r)
@@ -91,7 +93,7 @@ fit-request p f =
 fit-counted : (p : Parameters) (asks : ℕ) (r : Request) → IsFit p r → IsFit p (counted asks r)
 fit-counted p asks (request.Put session number tag label) fit = fit
 fit-counted p asks (request.Drop session number tag) fit = fit
-fit-counted p asks (request.Ask session number query) fit = fit-chosen p (nat_le asks_of_round asks) (request.Bad session number 6) (request.Ask session number query) (omega arith, omega arith) fit
+fit-counted p asks (request.Ask session number query) fit = fit-chosen p (nat_le asks_of_round asks) (request.Bad session number too_many_asks) (request.Ask session number query) (omega arith, omega arith) fit
 fit-counted p asks (request.Repack session number row) fit = fit
 fit-counted p asks (request.Bad session number code) fit = fit
 
@@ -126,7 +128,7 @@ ask-counted : (asks : ℕ) (r : Request) → is_ask (counted asks r) ≡ true �
 ask-counted asks (request.Put session number tag label) e = absurd (cc)
 ask-counted asks (request.Drop session number tag) e = absurd (cc)
 ask-counted asks (request.Ask session number query) e = (leb-false asks_of_round asks (by_many (nat_le asks_of_round asks) e), refl) where
-  by_many : (many : Bool) → is_ask (if many then request.Bad session number 6 else request.Ask session number query) ≡ true → many ≡ false
+  by_many : (many : Bool) → is_ask (if many then request.Bad session number too_many_asks else request.Ask session number query) ≡ true → many ≡ false
   by_many true e = absurd (cc)
   by_many false e = refl
 ask-counted asks (request.Repack session number row) e = absurd (cc)
@@ -177,13 +179,10 @@ few-asks_front : (go : Bool) (p : Parameters) (asks : ℕ) (f : Frame) (fs : Lis
 few-asks_front true p asks f fs same more = same
 few-asks_front false p asks f fs same more = ask-front (is_ask (counted asks (request_of p f))) p asks f fs refl more
 
-few-behind : (p : Parameters) (asks : ℕ) (fs : List Frame) → count_asks (requests_from p asks fs) ≤ asks_of_round - asks
+pub few-behind : (p : Parameters) (asks : ℕ) (fs : List Frame) → count_asks (requests_from p asks fs) ≤ asks_of_round - asks
 unfolding requests_from
 few-behind p asks [] = omega arith
 few-behind p asks (f ∷ fs) = few-asks_front (nat_eq f.kind go_kind) p asks f fs (few-behind p asks fs) (few-behind p (asks_behind asks f) fs)
-
-pub few-asks : (p : Parameters) (fs : List Frame) → count_asks (requests_from p 0 fs) ≤ asks_of_round
-few-asks p fs = few-behind p 0 fs
 
 -- the requests of one frame, and those behind it
 pub requests-one : (p : Parameters) (asks : ℕ) (f : Frame) (fs : List Frame) → requests_from p asks (f ∷ fs) ≡ requests_from p asks (f ∷ []) ++ requests_from p (asks_behind asks f) fs
@@ -197,17 +196,41 @@ requests-one p asks f fs = by_go (nat_eq f.kind go_kind) refl where
       rw other refl
   by_go false is = refl
 
+-- the requests of some frames, and those of the frames behind them
+pub requests-parts : (p : Parameters) (asks : ℕ) (front rest : List Frame) → requests_from p asks (front ++ rest) ≡ requests_from p asks front ++ requests_from p (asks_after asks front) rest
+unfolding requests_from
+requests-parts p asks [] rest = refl
+requests-parts p asks (f ∷ fs) rest =
+    requests-one p asks f (fs ++ rest) ∙ ap (λ (rs : List Request). requests_from p asks (f ∷ []) ++ rs) (requests-parts p (asks_behind asks f) fs rest)
+    ∙ sym (append_assoc (requests_from p asks (f ∷ [])) (requests_from p (asks_behind asks f) fs) (requests_from p (asks_after (asks_behind asks f) fs) rest))
+    ∙ ap (λ (rs : List Request). rs ++ requests_from p (asks_after (asks_behind asks f) fs) rest) (sym (requests-one p asks f fs))
+
+-- a request that fits has no code of a full journal
+pub fit-code : (p : Parameters) (r : Request) → IsFit p r → HasByteCode r
+fit-code p (request.Put session number tag label) h code e = absurd (cc)
+fit-code p (request.Drop session number tag) h code e = absurd (cc)
+fit-code p (request.Ask session number query) h code e = absurd (cc)
+fit-code p (request.Repack session number row) h code e = absurd (cc)
+fit-code p (request.Bad session number own) h code e = let same : own ≡ code = cc in omega (arith, same, h.1)
+
+-- so the requests of rounds of frames have no such code
+pub codes-of : (p : Parameters) (rounds : List (List Frame)) → All HasByteCode (requests_of (request_rounds p rounds))
+codes-of p [] = All-nil HasByteCode
+codes-of p (round ∷ rounds) =
+    let one = requests_from p 0 round in
+    All-append HasByteCode one (requests_of (request_rounds p rounds)) (All-weaker (IsFit p) HasByteCode (fit-code p) one (all-fit p 0 round)) (codes-of p rounds)
+
 -- frames that are not full are few
-few-open : (fs : List Frame) → is_full fs ≡ false → length fs < 4096
+few-open : (fs : List Frame) → is_full fs ≡ false → length fs < frames_of_round
 unfolding is_full
-few-open fs short = leb-false 4096 (length fs) (by_number (list_any is_go fs) (nat_le 4096 (length fs)) _ short) where
+few-open fs short = leb-false frames_of_round (length fs) (by_number (list_any is_go fs) (nat_le frames_of_round (length fs)) _ short) where
   by_number : (go many long : Bool) → (go || (many || long)) ≡ false → many ≡ false
   by_number true many long e = absurd (cc)
   by_number false true long e = absurd (cc)
   by_number false false long e = refl
 
 -- a round has at most 4096 frames
-pub round-few : (fs : List Frame) → IsRound fs → length fs ≤ 4096
+pub round-few : (fs : List Frame) → IsRound fs → length fs ≤ frames_of_round
 round-few fs round =
     let some = round.some in
     let n = length fs - 1 in
@@ -215,30 +238,22 @@ round-few fs round =
     omega (arith, few, length-take-le n fs (omega arith))
 
 -- What was read and what is left are all requests of the frames.
-pub record Reads (p : Parameters) (asks : ℕ) (left : List Frame) (read : List Request) (frames : List Frame) : Type 0 where
-  pub all : read ++ requests_from p asks left ≡ requests_from p 0 frames
+pub record Reads (p : Parameters) (before asks : ℕ) (left : List Frame) (read : List Request) (frames : List Frame) : Type 0 where
+  pub all : read ++ requests_from p asks left ≡ requests_from p before frames
 
-pub reads-more : (p : Parameters) (asks next : ℕ) (f : Frame) (rest frames : List Frame) (read new : List Request) → Reads p asks (f ∷ rest) read frames
-    → new ≡ read ++ requests_from p asks (f ∷ []) → next ≡ asks_behind asks f → Reads p next rest new frames
-reads-more p asks next f rest frames read new was grown behind = record {
+pub reads-more : (p : Parameters) (before asks next : ℕ) (f : Frame) (rest frames : List Frame) (read new : List Request) → Reads p before asks (f ∷ rest) read frames
+    → new ≡ read ++ requests_from p asks (f ∷ []) → next ≡ asks_behind asks f → Reads p before next rest new frames
+reads-more p before asks next f rest frames read new was grown behind = record {
   all =
       (λ i. grown i ++ requests_from p (behind i) rest) ∙ append_assoc read (requests_from p asks (f ∷ [])) (requests_from p (asks_behind asks f) rest)
       ∙ ap (λ (t : List Request). read ++ t) (sym (requests-one p asks f rest)) ∙ was.all;
 }
 
-pub reads-first : (p : Parameters) (frames : List Frame) (read : List Request) → read ≡ [] → Reads p 0 frames read frames
-reads-first p frames read none = record { all = ap (λ (t : List Request). t ++ requests_from p 0 frames) none }
+pub reads-first : (p : Parameters) (before : ℕ) (frames : List Frame) (read : List Request) → read ≡ [] → Reads p before before frames read frames
+reads-first p before frames read none = record { all = ap (λ (t : List Request). t ++ requests_from p before frames) none }
 
-pub reads-all : (p : Parameters) (asks : ℕ) (left : List Frame) (read : List Request) (all frames : List Frame) → Reads p asks left read all → left ≡ [] → all ≡ frames
-    → read ≡ requests_from p 0 frames
+pub reads-all : (p : Parameters) (before asks : ℕ) (left : List Frame) (read : List Request) (all frames : List Frame) → Reads p before asks left read all → left ≡ [] → all ≡ frames
+    → read ≡ requests_from p before frames
 unfolding requests_from
-reads-all p asks left read all frames was none given =
-    sym (append-nil read) ∙ ap (λ (fs : List Frame). read ++ requests_from p asks fs) (sym none) ∙ was.all ∙ ap (requests_from p 0) given
-
--- one frame is a round
-pub round-one : (f : Frame) → IsRound (f ∷ [])
-unfolding is_full
-round-one f = record {
-  some = omega arith;
-  first_full = λ k lt. let none : k ≡ 0 = omega (arith, lt) in ap (λ (n : ℕ). is_full (take n (f ∷ []))) none;
-}
+reads-all p before asks left read all frames was none given =
+    sym (append-nil read) ∙ ap (λ (fs : List Frame). read ++ requests_from p asks fs) (sym none) ∙ was.all ∙ ap (requests_from p before) given

@@ -139,6 +139,10 @@ reply_content (reply.Refused code) = big_bytes 1 code
 abbrev pub reply_frame_bytes : (session number : ℕ) → Reply → List ℕ
 reply_frame_bytes session number r = spelled (reply_kind r) session number (reply_content r)
 
+-- the bytes of a reply's frame: the length word, the head and the body
+abbrev pub reply_length : Reply → ℕ
+reply_length r = 4 + head_bytes + length (reply_content r)
+
 -- The reply's frame has a length that a frame may have. The body of an answer alone could be too long.
 abbrev pub answer_fits : Reply → Type 0
 answer_fits r = head_bytes + length (reply_content r) ≤ greatest_length

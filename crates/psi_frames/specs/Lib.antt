@@ -9,3 +9,4 @@ pub mod Cuts
 pub mod RoundSizes
 pub mod ReplyFrames
 pub mod Parts
+pub mod Texts

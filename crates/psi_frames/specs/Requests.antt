@@ -1,5 +1,6 @@
 -- Requests as values: what a request frame asks, or the code of a refusal that its bytes alone decide (the codes are this project's own).
 use Rattle.std.specs.Prelude.{◌≡◌, ℕ, ◌+◌, ◌*◌, ◌≤◌, ◌<◌, ⊤, Bool, true, false, ◌&&◌, not, nat_eq, nat_lt, nat_le, count_by, List, [], ◌∷◌, length, take, drop, slice_index, Option, None, Some, if◌then◌else◌}
+use Rattle.std.specs.List.{fold}
 use Rattle.psi_residue.specs.Parameters.{Parameters}
 use Rattle.item_slots.specs.Tags.{tag_of}
 use Rattle.psi_bundle.specs.Versions.{HasLabelLength, has_label_length}
@@ -109,6 +110,10 @@ counted asks (request.Bad session number code) = request.Bad session number code
 -- the Asks behind one frame more
 abbrev pub asks_behind : ℕ → Frame → ℕ
 asks_behind asks f = if nat_eq f.kind ask_kind then asks + 1 else asks
+
+-- the Asks behind some frames more
+abbrev pub asks_after : ℕ → List Frame → ℕ
+asks_after asks fs = fold asks_behind asks fs
 
 -- the requests of a round's frames, behind so many Asks of the round; a Go frame is none
 unfoldable pub requests_from : Parameters → (asks : ℕ) → List Frame → List Request

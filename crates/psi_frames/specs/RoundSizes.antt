@@ -5,18 +5,11 @@ use Rattle.psi_frames.specs.declared.frame.Frame.{Frame}
 use Rattle.psi_frames.specs.Frames.{frames_bytes}
 use Rattle.psi_frames.specs.Rounds.{is_go}
 
--- whether there is a Go frame, the number of frames and of their bytes; the numbers stand still at their type's end
-pub record Sizes : Type 0 where
-  pub go : Bool
-  pub frames : ℕ
-  pub bytes : ℕ
-
 -- the greatest number that is counted
 abbrev pub most_counted : ℕ
 most_counted = 2 ^ 64 - 1
 
--- The size counts these frames.
-pub record IsSizeOf (size : Sizes) (frames : List Frame) : Type 0 where
-  pub go : size.go ≡ list_any is_go frames
-  pub number : size.frames ≡ min (length frames) most_counted
-  pub bytes : size.bytes ≡ min (length (frames_bytes frames)) most_counted
+-- The size of a round's frames: whether there is a Go frame, and the number of their bytes, which stands still at its type's end.
+pub record HasSize (has_go : Bool) (size : ℕ) (frames : List Frame) : Type 0 where
+  pub go : has_go ≡ list_any is_go frames
+  pub bytes : size ≡ min (length (frames_bytes frames)) most_counted

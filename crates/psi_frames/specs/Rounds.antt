@@ -11,9 +11,16 @@ use Rattle.psi_frames.specs.Requests.{requests_from}
 abbrev pub is_go : Frame → Bool
 is_go f = nat_eq f.kind go_kind
 
+-- the frames behind which a round ends, and the bytes
+abbrev pub frames_of_round : ℕ
+frames_of_round = 4096
+
+abbrev pub bytes_of_round : ℕ
+bytes_of_round = 2 ^ 28
+
 -- A round ends after a Go frame, after its 4096th frame, or after the frame that brings its bytes to 2^28.
 unfoldable pub is_full : List Frame → Bool
-is_full fs = list_any is_go fs || (nat_le 4096 (length fs) || nat_le (2 ^ 28) (length (frames_bytes fs)))
+is_full fs = list_any is_go fs || (nat_le frames_of_round (length fs) || nat_le bytes_of_round (length (frames_bytes fs)))
 
 -- a round: some frames, of which no shorter front is full
 pub record IsRound (fs : List Frame) : Type 0 where

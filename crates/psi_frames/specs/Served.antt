@@ -1,6 +1,6 @@
 -- What replies serve what rounds of requests: a history is read off the requests and the replies. A place is the number of a request's
 -- entry in the history, from 0.
-use Rattle.std.specs.Prelude.{◌≡◌, ◌⊎◌, ℕ, ◌+◌, ◌-◌, ◌^◌, ◌<◌, ◌≤◌, min, Bool, true, false, nat_eq, nat_lt, is_none, List, [], length, map, filter, take, Option, Some, None, IsSome, slice_get, if◌then◌else◌}
+use Rattle.std.specs.Prelude.{◌≡◌, ◌⊎◌, ℕ, ◌+◌, ◌-◌, ◌^◌, ◌<◌, ◌≤◌, min, Bool, true, false, nat_eq, nat_lt, is_none, List, length, map, filter, take, Option, Some, None, IsSome, slice_get, if◌then◌else◌}
 use Rattle.std.specs.List.{All, AllPairs, enumerate_from, flat_map, filter_map, range_with_len, zip}
 use Rattle.std.specs.List.Sorted.{IsPermutation}
 use Rattle.std.specs.Option.{option_map}
@@ -8,7 +8,7 @@ use Rattle.psi_residue.specs.Parameters.{Parameters}
 use Rattle.psi_bundle.specs.declared.history.Answer.{Answer}
 use Rattle.psi_bundle.specs.declared.history.Answer.TheVariants as answer
 use Rattle.psi_bundle.specs.declared.history.Entry.{Entry}
-use Rattle.psi_bundle.specs.Versions.{Version, empty_version}
+use Rattle.psi_bundle.specs.Versions.{Version}
 use Rattle.psi_bundle.specs.Histories.{IsLegal, version_at}
 use Rattle.query_codec.specs.Replies.{reply_body}
 use Rattle.psi_frames.specs.declared.reply.Reply.{Reply}
@@ -248,14 +248,14 @@ pub record IsOneLaneText (p : Parameters) (start : Version) (given : List Entry)
   pub one_lane : IsOneLane (exchanges rounds sents)
   pub text_is : text ≡ text_of sents
 
--- The text is the one-lane text that serves the frames' rounds from the empty set.
-pub record IsOneLaneTextOf (p : Parameters) (frames : List Frame) (text : List ℕ) : Type 0 where
+-- The text is the one-lane text that serves the frames' rounds, from a start with a given history.
+pub record IsOneLaneTextOf (p : Parameters) (start : Version) (given : List Entry) (frames : List Frame) (text : List ℕ) : Type 0 where
   pub rounds : List (List Frame)
   pub are_rounds : AreRounds rounds frames
-  pub one_lane : IsOneLaneText p (empty_version p) [] (request_rounds p rounds) text
+  pub one_lane : IsOneLaneText p start given (request_rounds p rounds) text
 
 -- The same of any number of lanes.
-pub record IsServingTextOf (p : Parameters) (frames : List Frame) (text : List ℕ) : Type 0 where
+pub record IsServingTextOf (p : Parameters) (start : Version) (given : List Entry) (frames : List Frame) (text : List ℕ) : Type 0 where
   pub rounds : List (List Frame)
   pub are_rounds : AreRounds rounds frames
-  pub serving : IsServingText p (empty_version p) [] (request_rounds p rounds) text
+  pub serving : IsServingText p start given (request_rounds p rounds) text

@@ -15,12 +15,13 @@ mod front;
 mod head;
 mod laws;
 mod number;
+mod open_round;
 mod reply;
 mod request;
 mod round_requests;
-mod round_size;
 #[cfg(test)]
 mod tests;
+mod texts;
 mod writing;
 
 pub use crate::answer::read_answer;
@@ -32,8 +33,9 @@ pub use crate::laws::{
     no_reply_begins_another, no_request_begins_another, one_text_is_of_one_lane,
     pieces_do_not_matter,
 };
+pub use crate::open_round::OpenRound;
 pub use crate::reply::Reply;
 pub use crate::request::{Request, read_request};
 pub use crate::round_requests::requests_of_round;
-pub use crate::round_size::RoundSize;
-pub use crate::writing::{write_answer, write_request};
+pub use crate::texts::{Address, addresses_of, text_of};
+pub use crate::writing::{append_answer, write_answer, write_request};

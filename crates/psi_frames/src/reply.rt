@@ -1,6 +1,21 @@
 //! Replies.
 use crate::body::Body;
 
+/// The bytes of a place, which the body of each reply but Refused begins with.
+pub(crate) const PLACE_BYTES: usize = 8;
+
+/// The bytes of a Full's body.
+pub(crate) const FULL_BYTES: usize = PLACE_BYTES + 8;
+
+/// The bytes of a Repacked's body.
+pub(crate) const REPACKED_BYTES: usize = PLACE_BYTES + 12;
+
+/// The bytes of a Moved's body.
+pub(crate) const MOVED_BYTES: usize = PLACE_BYTES + 16;
+
+/// The bytes of a Refused's body.
+pub(crate) const CODE_BYTES: usize = 1;
+
 /// The reply to a request. A place is the number of the request's entry in the history, from 0.
 #[derive(Drop)]
 pub enum Reply {

@@ -2,7 +2,6 @@
 ghost use Rattle.std.specs.Prelude.{◌≡◌, ◌<◌, vec_len, replicate, IfOk};
 ghost use Rattle.std.specs.List.{All};
 ghost use Rattle.psi_frames.specs.Frames.{IsFrame, request_table};
-ghost use Rattle.psi_frames.specs.Rounds.{IsRound};
 
 use super::*;
 use noise_ledger::{Params, check};
@@ -158,25 +157,28 @@ fn a_reply_is_read_from_its_frame(rt: HostRuntime) {
 
 #[test]
 fn a_round_is_full_with_its_last_frame(rt: HostRuntime) {
+    let alloc = rt.alloc();
     for (kind, count, want) in [
         (3, 0, false),
         (3, 4095, false),
         (3, 4096, true),
         (5, 1, true),
     ] {
-        let frame = frame(rt.alloc(), kind, 0).expect(&rt, "memory");
-        let mut size = RoundSize::new();
+        let mut round = OpenRound::new(alloc);
+        assert!(rt; round.is_empty());
         for _ in 0..count {
-            size.push(&frame);
+            let frame = frame(alloc, kind, 0).expect(&rt, "memory");
+            assert!(rt; round.push(frame).is_ok());
         }
-        assert_eq!(rt; size.is_full(), want, "{count} of kind {kind}");
+        assert_eq!(rt; round.is_full(), want, "{count} of kind {kind}");
+        assert_eq!(rt; round.take(alloc).len(), count);
+        assert!(rt; round.is_empty());
     }
 }
 
 // A round of one Drop of the empty item.
 fn one_drop(alloc: Global) -> Result<Vec<Frame>, AllocError>
     ensures each { IfOk result (λ frames. All (IsFrame request_table) frames.items) }
-    ensures round { IfOk result (λ frames. IsRound frames.items) }
     ensures one { IfOk result (λ frames. vec_len frames ≡ 1) }
 {
     let mut frames = Vec::new(alloc);
@@ -193,8 +195,13 @@ fn the_requests_of_a_round(rt: HostRuntime) {
     let text = write_request(alloc, &frames[0]).expect(&rt, "memory");
     assert!(rt; text.as_slice() == b"\x00\x00\x00\x08\x02\x00\x01\x00\x00\x00\x01\x00".as_slice());
     no_request_begins_another();
-    let requests = requests_of_round(alloc, &params, frames).expect(&rt, "memory");
+    let requests = requests_of_round(alloc, &params, 0, frames).expect(&rt, "memory");
     assert_eq!(rt; requests.len(), 1);
+    let addresses = addresses_of(alloc, &requests).expect(&rt, "memory");
+    let mut replies = Vec::new(alloc);
+    assert!(rt; replies.push(Reply::Refused { code: 7 }).is_ok());
+    let text = text_of(alloc, &addresses, &replies).expect(&rt, "memory");
+    assert!(rt; text.as_slice() == b"\x00\x00\x00\x08\x89\x00\x01\x00\x00\x00\x01\x07".as_slice());
     assert!(rt;
         matches!(
             requests[0],

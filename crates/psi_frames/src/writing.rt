@@ -1,11 +1,11 @@
 //! Frames as bytes.
 ghost use Rattle.std.specs.Prelude.{◌≡◌, ◌≤◌, ◌+◌, ◌++◌, length, OnOk, IfOk};
 ghost use Rattle.byteorder.specs.Endian.{big_bytes};
-ghost use Rattle.psi_frames.specs.Frames.{IsFrame, answer_fits, frame_bytes, greatest_length, head_bytes, reply_frame_bytes, request_table};
+ghost use Rattle.psi_frames.specs.Frames.{IsFrame, answer_fits, frame_bytes, greatest_length, head_bytes, reply_content, reply_frame_bytes, reply_length, request_table};
 
 use crate::frame::{Frame, HEAD_BYTES};
 use crate::number::{push_u8, push_u16, push_u32, push_u64};
-use crate::reply::Reply;
+use crate::reply::{CODE_BYTES, FULL_BYTES, MOVED_BYTES, PLACE_BYTES, REPACKED_BYTES, Reply};
 use std::alloc::{AllocError, Global};
 
 /// The reply's frame, with the session and the number of its request. The body of an Answer leaves the
@@ -19,7 +19,7 @@ pub fn write_answer(
     requires fits { answer_fits reply.now }
     ensures frame { IfOk result (λ v. v.items ≡ reply_frame_bytes session number reply.now) }
 {
-    let mut text = Vec::new(alloc);
+    let mut text = Vec::with_capacity(alloc, reply_length(reply))?;
     append_answer(&mut text, session, number, reply)?;
     Ok(text)
 }
@@ -43,9 +43,11 @@ pub fn write_request(alloc: Global, frame: &Frame) -> Result<Vec<u8>, AllocError
     Ok(text)
 }
 
-// Appends the reply's frame to a text. Where memory runs out, a part of the frame may stand behind the text.
+/// Appends the reply's frame to a text, with the session and the number of its request. The body of an Answer leaves the
+/// frame's length word at 196608015 or below. The only error is memory that runs out; a part of the frame may stand behind
+/// the text then.
 #[tactic(auto, unfolding(crate::specs::Frames::spelled))]
-fn append_answer(
+pub fn append_answer(
     text: &mut Vec<u8>,
     session: u16,
     number: u32,
@@ -92,6 +94,32 @@ fn append_answer(
             push_head(text, 137, session, number, 1)?;
             push_u8(text, *code)
         }
+    }
+}
+
+/// The bytes of the reply's frame: the length word, the head and the body.
+pub(crate) fn reply_length(reply: &Reply) -> usize
+    requires fits { answer_fits reply.now }
+    ensures { result ≡ reply_length reply.now }
+{
+    4 + HEAD_BYTES + content_length(reply)
+}
+
+// The bytes of the body of the reply's frame.
+fn content_length(reply: &Reply) -> usize
+    requires fits { answer_fits reply.now }
+    ensures { result ≡ length (reply_content reply.now) }
+{
+    match reply {
+        Reply::Added { .. }
+        | Reply::Replaced { .. }
+        | Reply::Removed { .. }
+        | Reply::Absent { .. } => PLACE_BYTES,
+        Reply::Full { .. } => FULL_BYTES,
+        Reply::Answer { body, .. } => PLACE_BYTES + body.items().len(),
+        Reply::Repacked { .. } => REPACKED_BYTES,
+        Reply::Moved { .. } => MOVED_BYTES,
+        Reply::Refused { .. } => CODE_BYTES,
     }
 }
 

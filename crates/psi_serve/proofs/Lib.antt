@@ -1,13 +1,5 @@
-pub mod Renumbered
-pub mod Places
-pub mod Pairs
-pub mod Joins
-pub mod Sending
-pub mod OneRound
 pub mod Fewer
-pub mod Going
-pub mod Pieces
-pub mod Leaving
+pub mod OneRound
 pub mod LaneRounds
-pub mod JoinedRounds
-pub mod Once
+pub mod OneSets
+pub mod Begun
