@@ -76,12 +76,12 @@ range-parts low (suc m) n =
     ∙ ap (range_with_len low) number
 
 -- the numbers of a part follow on, and those of the next part behind them
-follow-parts : (xs ys : List ℕ) (low middle u v : ℕ) → IsPermutation xs (range_with_len low (min u (journal_limit - low))) → IsPermutation ys (range_with_len middle (min v (journal_limit - middle)))
-    → middle ≡ low + min u (journal_limit - low) → IsPermutation (xs ++ ys) (range_with_len low (min (u + v) (journal_limit - low)))
+follow-parts : (xs ys : List ℕ) (low middle u v : ℕ) → IsPermutation xs (range_with_len low (min u (most_entries - low))) → IsPermutation ys (range_with_len middle (min v (most_entries - middle)))
+    → middle ≡ low + min u (most_entries - low) → IsPermutation (xs ++ ys) (range_with_len low (min (u + v) (most_entries - low)))
 follow-parts xs ys low middle u v first next ends =
-    let m = min u (journal_limit - low) in
-    let n = min v (journal_limit - middle) in
-    let all : range_with_len low m ++ range_with_len middle n ≡ range_with_len low (min (u + v) (journal_limit - low)) =
+    let m = min u (most_entries - low) in
+    let n = min v (most_entries - middle) in
+    let all : range_with_len low m ++ range_with_len middle n ≡ range_with_len low (min (u + v) (most_entries - low)) =
     ap (λ (k : ℕ). range_with_len low m ++ range_with_len k n) ends ∙ range-parts low m n ∙ ap (range_with_len low) (omega (arith, ends)) in
     subst (IsPermutation (xs ++ ys)) all (IsPermutation-append xs (range_with_len low m) ys (range_with_len middle n) first next)
 
@@ -134,7 +134,7 @@ module _ (p : Parameters) (start : Version) (given middle history : List Entry) 
       let place : place_of e.reply ≡ None = ap place_of refused in
       let fewer = All-from_recursion (λ f. code_of f.request ≡ None → place_of f.reply ≡ None → length (places_of_round f.round es) < uncoded_of_round f.round es) es (places-fewer es coded-old) i d lt code place in
       let in_rounds = All-from_recursion (λ f. f.round < length rounds + 1) es below i d lt in
-      let size = permuted-length (first_place given e.round es) (min (uncoded_of_round e.round es) (journal_limit - first_place given e.round es)) (places_of_round e.round es)
+      let size = permuted-length (first_place given e.round es) (min (uncoded_of_round e.round es) (most_entries - first_place given e.round es)) (places_of_round e.round es)
       (old.placed.places e.round (omega (arith, in_rounds, number))) in
       let parts = places-parts e.round es in
       omega (arith, fewer, size, parts, old.history_of.no_others)
@@ -164,10 +164,10 @@ module _ (p : Parameters) (start : Version) (given middle history : List Entry) 
       (places-append (λ k. nat_lt k j) es gs ∙ ap (λ (xs : List ℕ). before j es ++ xs) (moved-none (λ k. nat_lt k j) (grind (arith, nat_tests, le))) ∙ append-nil (before j es))
 
   -- the new places begin where those of the part end
-  part-size : length (places_of_round (length rounds) es) ≡ min (uncoded_of_round (length rounds) es) (journal_limit - first_place given (length rounds) es)
+  part-size : length (places_of_round (length rounds) es) ≡ min (uncoded_of_round (length rounds) es) (most_entries - first_place given (length rounds) es)
   part-size =
       let k = length rounds in
-      permuted-length (first_place given k es) (min (uncoded_of_round k es) (journal_limit - first_place given k es)) (places_of_round k es) (old.placed.places k (omega (arith, number)))
+      permuted-length (first_place given k es) (min (uncoded_of_round k es) (most_entries - first_place given k es)) (places_of_round k es) (old.placed.places k (omega (arith, number)))
 
   ends-at : length middle ≡ first_place given (length rounds) es + length (places_of_round (length rounds) es)
   ends-at =
@@ -195,7 +195,7 @@ module _ (p : Parameters) (start : Version) (given middle history : List Entry) 
       let u = uncoded_of_round k es in
       let v = uncoded_of_round 0 fs in
       let low = first_place given k es in
-      let more : IsPermutation (places_of_round 0 fs) (range_with_len (length middle) (min v (journal_limit - length middle))) =
+      let more : IsPermutation (places_of_round 0 fs) (range_with_len (length middle) (min v (most_entries - length middle))) =
       same-follow (places_of_round 0 fs) (places_of_round 0 fs) (first_place middle 0 fs) (length middle) v v refl (omega (arith, none-first)) refl (new.placed.places 0 (omega arith)) in
       let joined = follow-parts (places_of_round k es) (places_of_round 0 fs) low (length middle) u v (old.placed.places k (omega (arith, number))) more (omega (arith, ends-at, part-size)) in
       same-follow (places_of_round k es ++ places_of_round 0 fs) (places_of_round k (es ++ gs)) low (first_place given k (es ++ gs)) (u + v) (uncoded_of_round k (es ++ gs))
@@ -351,7 +351,7 @@ module _ (p : Parameters) (start : Version) (given history : List Entry) (rounds
   none-follow =
       let k = length rounds in
       let others = each-weaker (λ e. e.round < k) (λ e. nat_eq k e.round ≡ false) (λ e lt. grind (arith, nat_tests, lt)) xs (rounds-below rounds sents) in
-      let none : 0 ≡ min 0 (journal_limit - first_place given k xs) = omega arith in
+      let none : 0 ≡ min 0 (most_entries - first_place given k xs) = omega arith in
       same-follow [] (places_of_round k xs) (first_place given k xs) (first_place given k xs) 0 (uncoded_of_round k xs) (places-none (nat_eq k) xs others) refl (uncoded-none k xs others)
       (subst (λ (n : ℕ). IsPermutation [] (range_with_len (first_place given k xs) n)) none (IsPermutation-refl []))
 

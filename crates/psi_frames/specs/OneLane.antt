@@ -14,7 +14,7 @@ use Rattle.psi_frames.specs.declared.reply.Reply.{Reply}
 use Rattle.psi_frames.specs.declared.reply.Reply.TheVariants as reply
 use Rattle.psi_frames.specs.declared.request.Request.{Request}
 use Rattle.psi_frames.specs.Requests.{call_of, code_of, asked_ciphertexts, session_of, number_of, journal_full}
-use Rattle.psi_frames.specs.Served.{Sent, IsOneLane, IsOneLaneText, IsServed, exchanges, journal_limit, requests_of, text_of}
+use Rattle.psi_frames.specs.Served.{Sent, IsOneLane, IsOneLaneText, IsServed, exchanges, requests_of, text_of}
 
 -- the reply that tells an answer at a place; a query's body is told with Seen, and a Repack's `from` is its place
 abbrev pub reply_telling : Answer → (place : ℕ) → (body : List ℕ) → Reply

@@ -1,6 +1,5 @@
 -- A round that one lane answers serves it, from the book that the rounds before left.
-use Rattle.std.specs.Prelude.{◌≡◌, ℕ, List, [], ◌∷◌, ◌++◌, Option, None, Some, IfSome}
-use Rattle.std.specs.FinMap as fin
+use Rattle.std.specs.Prelude.{◌≡◌, ℕ, true, List, [], ◌∷◌, ◌++◌, length, Option, None, Some, Result, Ok, Err, IfOk}
 use Rattle.std.specs.List.{All, AllByRecursion, fold}
 use Rattle.std.proofs.Common.{refl, sym, ap, ◌∙◌, subst, append-nil}
 use Rattle.std.proofs.lemmas.List.Elements.{All-weaker, recursion_from_All}
@@ -9,16 +8,19 @@ use Rattle.psi_residue.specs.Parameters.{Parameters}
 use Rattle.psi_bundle.specs.declared.history.Call.{Call}
 use Rattle.psi_bundle.specs.declared.history.Entry.{Entry}
 use Rattle.psi_bundle.specs.Histories.{IsLegal, after, replay}
-use Rattle.psi_bundle.specs.Versions.{Version, empty_version}
+use Rattle.psi_bundle.specs.Versions.{Version}
+use Rattle.psi_frames.specs.declared.reply.Reply.{Reply}
 use Rattle.psi_frames.specs.declared.request.Request.{Request}
+use Rattle.psi_frames.specs.Frames.{answer_fits}
 use Rattle.psi_frames.specs.OneLane.{HasByteCode, call_on, entries_by, lane_history, lane_next, lane_replies, version_by}
 use Rattle.psi_frames.specs.Requests.{IsFit}
-use Rattle.psi_frames.specs.Served.{AreServed, Exchange, IsOneLane, IsServed, Sent, exchanges}
+use Rattle.psi_frames.specs.Served.{AreServed, Exchange, IsOneLane, IsServed, Sent, addressed, exchanges}
 use Rattle.psi_frames.proofs.Lanes.{addresses, seconds}
 use Rattle.psi_frames.proofs.Following.{numbered_from, seconds-numbered}
 use Rattle.psi_frames.proofs.LaneServes.{exchanges-lane, lane-legal, lane-one, lane-served, legal-join}
-use Rattle.sender_core.specs.Kept.{Contents, version_of}
-use Rattle.psi_serve.specs.Books.{IsBookOf, journal_of}
+use Rattle.sender_core.specs.Kept.{Contents, start_of, version_of}
+use Rattle.psi_serve.specs.Books.{IsBookUnder}
+use Rattle.psi_serve.specs.Rounds.{HasAnsweredRound, IsAsked}
 use Rattle.psi_frames.proofs.RoundRequests.{fit-code}
 use Rattle.psi_frames.proofs.Renumbered.{each-seconds}
 
@@ -67,43 +69,39 @@ module _ (p : Parameters) (start : Version) (given : List Entry) (requests : Lis
       (subst IsOneLane (sym (exchanges-lane p start given rounds none_yet legal bytes)) (lane-one p start given rounds none_yet legal bytes))
 
 -- The round of a book that stands behind the rounds before.
-module _ {C : Type 0} (p : Parameters) (old new : Contents C) (requests : List Request) (sents : List Sent) (of : IsBookOf p old) (fit : All (IsFit p) requests)
-    (replied : sents ≡ lane_replies p (version_of old) requests) (entered : new.journal ≡ old.journal ++ lane_history (version_of old) requests) where
-  abbrev start : Version
-  start = empty_version p
-
-  pub book-served : IsServed p start old.journal new.journal (requests ∷ []) sents
-  book-served =
+module _ {C : Type 0} (p : Parameters) (old new : Contents C) (requests : List Request) (replies : List Reply) (of : IsBookUnder p old) (fit : All (IsFit p) requests)
+    (replied : addressed requests replies ≡ lane_replies p (version_of old) requests) (entered : new.journal ≡ old.journal ++ lane_history (version_of old) requests) where
+  lane-served_book : IsServed p (start_of old) old.journal new.journal (requests ∷ []) (addressed requests replies)
+  lane-served_book =
+      let start = start_of old in
       subst (λ (s : List Sent). IsServed p start old.journal new.journal (requests ∷ []) s) (sym replied)
       (subst (λ (j : List Entry). IsServed p start old.journal j (requests ∷ []) (lane_replies p (version_of old) requests)) (sym entered)
       (subst (λ (v : Version). IsServed p start old.journal (old.journal ++ lane_history v requests) (requests ∷ []) (lane_replies p v requests)) of.leads
       (lane-round p start old.journal requests refl of.legal fit)))
 
-  pub book-one : IsOneLane (exchanges (requests ∷ []) sents)
-  book-one =
+  lane-one_book : IsOneLane (exchanges (requests ∷ []) (addressed requests replies))
+  lane-one_book =
       subst (λ (s : List Sent). IsOneLane (exchanges (requests ∷ []) s)) (sym replied)
-      (subst (λ (v : Version). IsOneLane (exchanges (requests ∷ []) (lane_replies p v requests))) of.leads (lane-round_one p start old.journal requests refl of.legal fit))
+      (subst (λ (v : Version). IsOneLane (exchanges (requests ∷ []) (lane_replies p v requests))) of.leads (lane-round_one p (start_of old) old.journal requests refl of.legal fit))
 
-  pub book-stays : version_of new ≡ fold lane_next (version_of old) requests → new.parameters ≡ old.parameters → new.start ≡ old.start → IsBookOf p new
-  book-stays led same begun = record {
-    parameters = same ∙ of.parameters;
-    start = (λ i. record { parameters = same i; count = 0; labels = fin.from_entries (begun i).labels; rows = (begun i).rows }) ∙ of.start;
-    legal = subst (IsLegal start) (sym entered) (legal-join start old.journal (lane_history (version_of old) requests) of.legal (subst (λ (v : Version). IsLegal v (lane_history (version_of old) requests)) (sym of.leads) (lane-legal (version_of old) requests)));
-    leads = ap (replay start) entered ∙ fold-append after start old.journal (lane_history (version_of old) requests)
+  pub lane-answers : version_of new ≡ fold lane_next (version_of old) requests → length replies ≡ length requests → All answer_fits replies → new.parameters ≡ old.parameters → new.start ≡ old.start
+      → HasAnsweredRound p true old new requests replies
+  lane-answers led each fits same begun = record {
+    served = lane-served_book;
+    one_lane = λ _. lane-one_book;
+    one_each = each;
+    fits = fits;
+    parameters = same;
+    start = begun;
+    leads = ap (replay (start_of old)) entered ∙ fold-append after (start_of old) old.journal (lane_history (version_of old) requests)
         ∙ ap (λ (v : Version). replay v (lane_history (version_of old) requests)) of.leads ∙ lane-leads (version_of old) requests ∙ sym led;
   }
 
--- the same of a book that was there
-module _ {C : Type 0} (p : Parameters) (before : Option (Contents C)) (old new : Contents C) (requests : List Request) (sents : List Sent) (there : before ≡ Some old) (of : IfSome before (IsBookOf p)) (fit : All (IsFit p) requests)
-    (replied : sents ≡ lane_replies p (version_of old) requests) (entered : new.journal ≡ old.journal ++ lane_history (version_of old) requests) where
-  of_old : IsBookOf p old
-  of_old = subst (λ (b : Option (Contents C)). IfSome b (IsBookOf p)) there of
-
-  pub some-served : IsServed p (empty_version p) (journal_of before) new.journal (requests ∷ []) sents
-  some-served = subst (λ (b : Option (Contents C)). IsServed p (empty_version p) (journal_of b) new.journal (requests ∷ []) sents) (sym there) (book-served p old new requests sents of_old fit replied entered)
-
-  pub some-one : IsOneLane (exchanges (requests ∷ []) sents)
-  some-one = book-one p old new requests sents of_old fit replied entered
-
-  pub some-stays : version_of new ≡ fold lane_next (version_of old) requests → new.parameters ≡ old.parameters → new.start ≡ old.start → IsBookOf p new
-  some-stays led same begun = book-stays p old new requests sents of_old fit replied entered led same begun
+-- the same for a call's result
+pub answered-alone : {C R E : Type 0} (p : Parameters) (old : Contents C) (requests : List Request) (result : Result R E) (book : R → Contents C) (replies : R → List Reply) → IsAsked p old requests
+    → IfOk result (λ r. length (replies r) ≡ length requests) → IfOk result (λ r. addressed requests (replies r) ≡ lane_replies p (version_of old) requests)
+    → IfOk result (λ r. (book r).journal ≡ old.journal ++ lane_history (version_of old) requests) → IfOk result (λ r. version_of (book r) ≡ fold lane_next (version_of old) requests)
+    → IfOk result (λ r. (book r).parameters ≡ old.parameters) → IfOk result (λ r. (book r).start ≡ old.start) → IfOk result (λ r. All answer_fits (replies r))
+    → IfOk result (λ r. HasAnsweredRound p true old (book r) requests (replies r))
+answered-alone p old requests (Ok r) book replies asked each told entered led same begun fits = lane-answers p old (book r) requests (replies r) asked.under asked.fit told entered led each fits same begun
+answered-alone p old requests (Err e) book replies asked each told entered led same begun fits = tt

@@ -1,8 +1,5 @@
-pub mod OneRound
 pub mod Fewer
-pub mod Going
-pub mod Pieces
-pub mod Leaving
+pub mod OneRound
 pub mod LaneRounds
-pub mod JoinedRounds
-pub mod Once
+pub mod OneSets
+pub mod Begun

@@ -1,5 +1,5 @@
 -- One round: what may be asked of a book, and what its answer leaves.
-use Rattle.std.specs.Prelude.{◌≡◌, ◌≤◌, Bool, true, List, [], ◌∷◌, length}
+use Rattle.std.specs.Prelude.{◌≡◌, ◌≤◌, Bool, true, List, [], ◌∷◌, length, Option, Some}
 use Rattle.std.specs.List.{All}
 use Rattle.psi_residue.specs.Parameters.{Parameters}
 use Rattle.psi_bundle.specs.Histories.{replay}
@@ -9,11 +9,12 @@ use Rattle.psi_frames.specs.Frames.{answer_fits}
 use Rattle.psi_frames.specs.Requests.{IsFit, asks_of_round, count_asks}
 use Rattle.psi_frames.specs.Served.{IsOneLane, IsServed, addressed, exchanges}
 use Rattle.sender_core.specs.Kept.{Contents, start_of, version_of}
+use Rattle.psi_serve.specs.Books.{IsBookUnder}
 
 module _ {C : Type 0} where
   -- the requests of a round that a book with these parameters can answer
   pub record IsAsked (p : Parameters) (book : Contents C) (requests : List Request) : Type 0 where
-    pub same : book.parameters ≡ p
+    pub under : IsBookUnder p book
     pub few : length requests ≤ 4096
     pub asks : count_asks requests ≤ asks_of_round
     pub fit : All (IsFit p) requests
@@ -28,3 +29,11 @@ module _ {C : Type 0} where
     pub parameters : new.parameters ≡ old.parameters
     pub start : new.start ≡ old.start
     pub leads : replay (start_of old) new.journal ≡ version_of new
+
+  -- the round was answered by the book that was there, and the new book is there
+  pub record HasToldRound (p : Parameters) (alone : Bool) (before after : Option (Contents C)) (requests : List Request) (replies : List Reply) : Type 0 where
+    pub old : Contents C
+    pub new : Contents C
+    pub was : before ≡ Some old
+    pub is : after ≡ Some new
+    pub has : HasAnsweredRound p alone old new requests replies

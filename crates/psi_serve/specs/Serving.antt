@@ -1,146 +1,63 @@
--- What serving an input leaves of its source and its sink, by its status.
-use Rattle.std.specs.Prelude.{◌≡◌, ◌⊎◌, ℕ, ◌+◌, ◌<◌, ◌≤◌, Bool, true, IsTrue, List, [], ◌++◌, length, take, Option, Some, None, IfSome, IsSome}
-use Rattle.std.specs.List.{All, flat_map, filter_map}
-use Rattle.std.specs.Io.KnownBytes.{Appends, Consumes}
+-- What serving one set leaves of its source and its sink, by its status.
+use Rattle.std.specs.Prelude.{◌≡◌, Bool, true, false, List, [], Option, None, Some}
 use Rattle.psi_residue.specs.Parameters.{Parameters}
 use Rattle.psi_bundle.specs.declared.history.Entry.{Entry}
-use Rattle.psi_bundle.specs.Versions.{empty_version}
-use Rattle.psi_outside.specs.Causes.{Rose}
-use Rattle.psi_outside.specs.Ends.{Ends, SinkTold}
-use Rattle.psi_outside.specs.Streams.{IsAllFlushed}
+use Rattle.psi_bundle.specs.Versions.{Version}
+use Rattle.psi_outside.specs.Ends.{Ends}
 use Rattle.psi_frames.specs.declared.frame.Frame.{Frame}
-use Rattle.psi_frames.specs.Frames.{Fault, IsFrame, AreWholeFrames, frames_bytes, most_bytes, request_table}
-use Rattle.psi_frames.specs.Rounds.{AreRounds, IsRound, is_full, request_rounds}
-use Rattle.psi_frames.specs.Served.{IsOneLane, IsServed, Sent, exchanges, place_of, text_of}
+use Rattle.psi_frames.specs.Rounds.{AreRounds, is_full, request_rounds}
+use Rattle.psi_frames.specs.Served.{IsOneLane, IsServed, Sent, exchanges}
 use Rattle.query_pool.specs.declared.round.Served.{Served}
+use Rattle.query_pool.specs.Serving.{HasServedBy, Rule}
+use Rattle.sender_core.specs.Kept.{Contents, start_of}
 
--- The replies serve the rounds that these frames fall into, from the empty set. Alone: they are those of one lane.
-pub record AreRepliesTo (p : Parameters) (alone : Bool) (frames : List Frame) (sents : List Sent) : Type 0 where
-  pub rounds : List (List Frame)
-  pub are_rounds : AreRounds rounds frames
-  pub history : List Entry
-  pub served : IsServed p (empty_version p) [] history (request_rounds p rounds) sents
+-- The replies serve the rounds from a start, along this history. Alone: they are those of one lane.
+pub record AreServedAlong (p : Parameters) (start : Version) (alone : Bool) (history : List Entry) (rounds : List (List Frame)) (sents : List Sent) : Type 0 where
+  pub served : IsServed p start [] history (request_rounds p rounds) sents
   pub one_lane : alone ≡ true → IsOneLane (exchanges (request_rounds p rounds) sents)
 
--- how many of the replies have a place: each is an entry of the history
-abbrev pub entries_of : List Sent → ℕ
-entries_of sents = length (filter_map (λ s. place_of s.reply) sents)
+-- they do so along some history
+abbrev pub ServeRounds : Parameters → (start : Version) → (alone : Bool) → List (List Frame) → List Sent → Type 0
+ServeRounds p start alone rounds sents = (history : List Entry) × AreServedAlong p start alone history rounds sents
 
--- the run counts these replies, and those of them that have a place
-pub record Counts (served : Served) (sents : List Sent) : Type 0 where
-  pub entries : served.entries ≡ entries_of sents
-  pub replies : served.replies ≡ length sents
-
--- all that the sink holds is flushed; or nothing was written, and as much is flushed as before
-abbrev pub IsFlushedBehind : (old new : SinkTold) → (text : List ℕ) → Type 0
-IsFlushedBehind old new text = IsAllFlushed new.written new.flushed ⊎ ((text ≡ []) × (new.flushed ≡ old.flushed))
-
--- up to the end of the text all is flushed, and no more; or the text is empty, and as much is flushed as before
-abbrev pub IsFlushedTo : (old new : SinkTold) → (text : List ℕ) → Type 0
-IsFlushedTo old new text = IfSome old.written (λ bytes. IfSome new.flushed (λ count. count ≡ length bytes + length text)) ⊎ ((text ≡ []) × (new.flushed ≡ old.flushed))
-
--- The replies to these frames were written behind what the sink held, and flushed. The run counts them, and no write failed.
-pub record IsAnswered (p : Parameters) (alone : Bool) (frames : List Frame) (old new : Ends) (served : Served) : Type 0 where
-  pub sents : List Sent
-  pub replies : AreRepliesTo p alone frames sents
-  pub written : Appends old.sink.written new.sink.written (text_of sents)
-  pub flushed : IsFlushedBehind old.sink new.sink (text_of sents)
-  pub counts : Counts served sents
-  pub no_write_failed : new.sink.faults ≡ old.sink.faults
-
--- these bytes are what the source had left, where it tells that
-abbrev pub IsInput : Ends → List ℕ → Type 0
-IsInput old input = IfSome old.source.left (λ bytes. bytes ≡ input)
-
--- 0: the input is whole frames to its end, and these are answered
-pub record IsDone (p : Parameters) (alone : Bool) (old new : Ends) (served : Served) : Type 0 where
-  pub input : List ℕ
-  pub told : IsInput old input
-  pub size : length input ≤ most_bytes
-  pub frames : List Frame
-  pub whole : AreWholeFrames request_table input frames None
-  pub answered : IsAnswered p alone frames old new served
-  pub ended : IfSome old.source.left (λ _. new.source.left ≡ Some [])
-  pub no_read_failed : new.source.faults ≡ old.source.faults
-
--- 4: the input has a bad frame, or ends within a frame, or is too long; the whole frames before are answered
-pub record IsBadInput (p : Parameters) (alone : Bool) (old new : Ends) (served : Served) : Type 0 where
-  pub input : List ℕ
-  pub told : IsInput old input
-  pub frames : List Frame
-  pub fault : Option Fault
-  pub whole : AreWholeFrames request_table input frames fault
-  pub bad : IsSome fault ⊎ (most_bytes < length input)
-  pub answered : IsAnswered p alone frames old new served
-  pub no_read_failed : new.source.faults ≡ old.source.faults
-
--- 5: a read failed; the whole frames of the bytes that were taken are answered, and none of these is bad
-pub record IsReadFault (p : Parameters) (alone : Bool) (old new : Ends) (served : Served) : Type 0 where
-  pub taken : List ℕ
-  pub consumed : Consumes old.source.left new.source.left taken
-  pub size : length taken ≤ most_bytes
-  pub frames : List Frame
-  pub fault : Option Fault
-  pub whole : AreWholeFrames request_table taken frames fault
-  pub no_bad_frame : (fault ≡ None) ⊎ (fault ≡ Some Fault.Short)
-  pub answered : IsAnswered p alone frames old new served
-  pub failed : Rose old.source.faults new.source.faults
-
--- bytes begin with these frames, among those that are looked at
-pub record BeginWith (bytes : List ℕ) (frames : List Frame) : Type 0 where
-  pub rest : List ℕ
-  pub whole : take most_bytes bytes ≡ frames_bytes frames ++ rest
-  pub each : All (IsFrame request_table) frames
-
--- frames that fall into full rounds
-pub record FillRounds (frames : List Frame) : Type 0 where
+-- the replies serve the rounds that these frames fall into
+pub record AreRepliesTo (p : Parameters) (start : Version) (alone : Bool) (frames : List Frame) (sents : List Sent) : Type 0 where
   pub rounds : List (List Frame)
-  pub all : frames ≡ flat_map (λ round. round) rounds
-  pub each : All IsRound rounds
-  pub full : All (λ round. IsTrue (is_full round)) rounds
+  pub are_rounds : AreRounds rounds frames
+  pub serve : ServeRounds p start alone rounds sents
 
--- a round that is full, or that ends with the last whole frame of the bytes
-abbrev pub IsLastOrFull : (taken : List ℕ) → (frames round : List Frame) → Type 0
-IsLastOrFull taken frames round = IsTrue (is_full round) ⊎ ((fault : Option Fault) × AreWholeFrames request_table taken frames fault)
+-- how a set is served: whether its replies are those of one lane, and from which start; a set that was given up has none
+pub record SetKind : Type 0 where
+  pub alone : Bool
+  pub start : Option Version
 
--- 6: a write or a flush failed in some round; the replies of earlier rounds stand whole and are flushed, then a front of that round's,
--- not flushed. The run counts the replies of the earlier rounds.
-pub record IsWriteFault (p : Parameters) (alone : Bool) (old new : Ends) (served : Served) : Type 0 where
-  pub taken : List ℕ
-  pub consumed : Consumes old.source.left new.source.left taken
-  pub earlier : List Frame
-  pub round : List Frame
-  pub begin_with : BeginWith taken (earlier ++ round)
-  pub fill_rounds : FillRounds earlier
-  pub is_round : IsRound round
-  pub ends : IsLastOrFull taken (earlier ++ round) round
-  pub done : List Sent
-  pub done_replies : AreRepliesTo p alone earlier done
-  pub last : List Sent
-  pub replies : AreRepliesTo p alone (earlier ++ round) (done ++ last)
-  pub front : (n : ℕ) × Appends old.sink.written new.sink.written (text_of done ++ take n (text_of last))
-  pub flushed : IsFlushedTo old.sink new.sink (text_of done)
-  pub counts : Counts served done
-  pub failed : Rose old.sink.faults new.sink.faults
+abbrev pub kind_of : {C : Type 0} → Bool → Option (Contents C) → SetKind
+kind_of alone None = record { alone = alone; start = None }
+kind_of alone (Some book) = record { alone = alone; start = Some (start_of book) }
 
--- 7: memory ran out in some round; the replies of the earlier rounds, which are full, stand whole, and nothing of that round
-pub record IsOutOfMemory (p : Parameters) (alone : Bool) (old new : Ends) (served : Served) : Type 0 where
-  pub taken : List ℕ
-  pub consumed : Consumes old.source.left new.source.left taken
-  pub frames : List Frame
-  pub begin_with : BeginWith taken frames
-  pub fill_rounds : FillRounds frames
-  pub answered : IsAnswered p alone frames old new served
+-- the replies serve the rounds of such a set
+abbrev pub ServeSet : (alone : Bool) → Option Version → List (List Frame) → List Sent → Type 0
+ServeSet alone None rounds sents = ⊥
+ServeSet alone (Some start) rounds sents = ServeRounds start.parameters start alone rounds sents
 
--- the statuses of serving
-abbrev pub IsServingStatus : ℕ → Type 0
-IsServingStatus n = (n ≡ 0) ⊎ ((n ≡ 4) ⊎ ((n ≡ 5) ⊎ ((n ≡ 6) ⊎ (n ≡ 7))))
+-- no frames are no full round
+pub none_full : is_full [] ≡ false
+unfolding is_full
+none_full = λ i. false
 
--- What serving leaves, by its status.
-pub record HasServed (p : Parameters) (alone : Bool) (old new : Ends) (served : Served) : Type 0 where
-  pub statuses : IsServingStatus served.status
-  pub done : served.status ≡ 0 → IsDone p alone old new served
-  pub bad_input : served.status ≡ 4 → IsBadInput p alone old new served
-  pub read_fault : served.status ≡ 5 → IsReadFault p alone old new served
-  pub write_fault : served.status ≡ 6 → IsWriteFault p alone old new served
-  pub no_memory : served.status ≡ 7 → IsOutOfMemory p alone old new served
+-- the rule of one set: a round ends where it is full
+abbrev pub one_set : SetKind → Rule
+one_set kind = record {
+  ends = λ before waiting. is_full waiting;
+  none_ends = λ before. none_full;
+  serves = λ rounds sents. ServeSet kind.alone kind.start rounds sents;
+}
+
+-- a book, if it was not given up, has served these rounds by these replies from its start
+abbrev pub HasServedFrom : {C : Type 0} → (alone : Bool) → Option (Contents C) → List (List Frame) → List Sent → Type 0
+HasServedFrom alone None rounds sents = ⊥
+HasServedFrom alone (Some book) rounds sents = AreServedAlong book.parameters (start_of book) alone book.journal rounds sents
+
+-- What serving a set from a start leaves, by its status.
+abbrev pub HasServed : (start : Version) → (alone : Bool) → (old new : Ends) → Served → Type 0
+HasServed start alone old new served = HasServedBy (one_set (record { alone = alone; start = Some start })) old new served

@@ -1,33 +1,35 @@
-//! Serving an input: its rounds, from the empty set.
-ghost use Rattle.std.specs.Prelude.{◌≡◌, ◌≤◌, Bool, true, nat_eq, [], IfOk, IfSome};
+//! Serving an input: its rounds, from a set.
+ghost use Rattle.std.specs.Prelude.{◌≡◌, ◌≤◌, true, nat_eq, [], IfOk, IfSome};
 ghost use Rattle.noise_ledger.specs.Verdicts.{ArePassed, parameters_of};
+ghost use Rattle.psi_bundle.specs.Versions.{empty_version};
 ghost use Rattle.psi_outside.specs.Ends.{ends};
-ghost use Rattle.psi_serve.specs.Inputs.{IsBad, IsGoodInput};
+ghost use Rattle.query_pool.specs.Inputs.{AreBadFrames, AreGoodFrames};
+ghost use Rattle.sender_core.specs.Kept.{start_of};
 ghost use Rattle.psi_serve.specs.Rounds.{HasAnsweredRound, IsAsked};
-ghost use Rattle.psi_serve.specs.Runs.{status_of};
 ghost use Rattle.psi_serve.specs.Serving.{HasServed};
 
-use crate::alone::Alone;
-use crate::answers::Answers;
-use crate::lanes::Lanes;
-use crate::run::Run;
-use crate::stop::Stop;
+use crate::one_set::OneSet;
 use bundle_cache::Cache;
 use noise_ledger::Params;
 use psi_frames::Request;
 use psi_outside::{Gate, Sink, Source};
-use query_pool::{Round, Served, Shape, run_round};
+use query_pool::{Round, Served, Shape, round_alone, run_round, serve_frames};
 use sender_core::Book;
 use std::alloc::{AllocError, Global};
 use std::sync::Wait;
 use std::thread::Threads;
 
-// The status of a run that found no memory to begin.
-const NO_MEMORY: u8 = 7;
+// What is left where there was no memory for a set.
+const NO_MEMORY: Served = Served {
+    status: 7,
+    entries: 0,
+    replies: 0,
+};
 
 /// Serves the requests of a source by the workers and builders of a shape, from the empty set: rounds of frames in, the text of
-/// their replies out. Each round's replies are written and flushed before the next round begins. The threads of a round pass the
-/// gate at their points.
+/// their replies out. Each round is answered as soon as it was read, and its replies are written and flushed before the next
+/// round begins. After a write or a flush that failed, and where memory ran out, nothing more is read. The threads of a round
+/// pass the gate at their points.
 ///
 /// The parameters pass the check. There are 1 to 8 workers and at most 4 builders.
 ///
@@ -54,10 +56,37 @@ pub fn serve<R: Threads + Wait + Sync, S: Source, K: Sink, G: Gate>(
     requires passed { ArePassed (parameters_of params.now) }
     requires workers { (1 ≤ shape.workers) × (shape.workers ≤ 8) }
     requires builders { shape.builders ≤ 4 }
-    ensures served { HasServed (parameters_of params.now) (nat_eq shape.workers 1) (ends (S.told source.old) (K.told sink.old))
-        (ends (S.told source.new) (K.told sink.new)) result }
-    ensures good { IfSome (S.told source.old).left (λ bytes. IsGoodInput bytes → result.status ≡ 4 → ⊥) }
-    ensures bad { IfSome (S.told source.old).left (λ bytes. IsBad bytes → result.status ≡ 0 → ⊥) }
+    ensures served { HasServed (empty_version (parameters_of params.now)) (nat_eq shape.workers 1)
+        (ends (S.told source.old) (K.told sink.old)) (ends (S.told source.new) (K.told sink.new)) result }
+    ensures good { IfSome (S.told source.old).left (λ bytes. AreGoodFrames bytes → result.status ≡ 4 → ⊥) }
+    ensures bad { IfSome (S.told source.old).left (λ bytes. AreBadFrames bytes → result.status ≡ 0 → ⊥) }
+{
+    match Book::open(alloc, params) {
+        Ok(book) => serve_book(rt, alloc, params, book, shape, source, sink, gate),
+        Err(_) => NO_MEMORY,
+    }
+}
+
+// The same from the set of a book, whose journal is empty.
+fn serve_book<R: Threads + Wait + Sync, S: Source, K: Sink, G: Gate>(
+    rt: &R,
+    alloc: Global,
+    params: &Params,
+    book: Book<Cache>,
+    shape: Shape,
+    source: &mut S,
+    sink: &mut K,
+    gate: &G,
+) -> Served
+    requires passed { ArePassed (parameters_of params.now) }
+    requires same { book.parameters ≡ parameters_of params.now }
+    requires none_entered { book.journal ≡ [] }
+    requires workers { (1 ≤ shape.workers) × (shape.workers ≤ 8) }
+    requires builders { shape.builders ≤ 4 }
+    ensures served { HasServed (start_of book) (nat_eq shape.workers 1)
+        (ends (S.told source.old) (K.told sink.old)) (ends (S.told source.new) (K.told sink.new)) result }
+    ensures good { IfSome (S.told source.old).left (λ bytes. AreGoodFrames bytes → result.status ≡ 4 → ⊥) }
+    ensures bad { IfSome (S.told source.old).left (λ bytes. AreBadFrames bytes → result.status ≡ 0 → ⊥) }
 {
     let round = |book: Book<Cache>, requests: Vec<Request>| -> Result<Round, AllocError>
         requires passed { ArePassed (parameters_of params.now) }
@@ -66,8 +95,8 @@ pub fn serve<R: Threads + Wait + Sync, S: Source, K: Sink, G: Gate>(
         requires asked { IsAsked (parameters_of params.now) book requests.items }
         ensures { IfOk result (λ round. HasAnsweredRound (parameters_of params.entry.now) (nat_eq shape.workers 1) book round.book requests.items round.replies.items) }
     { run_round(rt, alloc, params, book, requests, shape, gate) };
-    let lanes = Lanes::open(alloc, params, shape.workers, round);
-    serve_opened(alloc, params, lanes, source, sink)
+    let set = OneSet::new(alloc, book, shape.workers == 1, round);
+    serve_frames(alloc, params, set, source, sink)
 }
 
 /// The same by one lane, without builders and without waiting. The parameters pass the check.
@@ -82,73 +111,54 @@ pub fn serve_alone<R: Threads + Sync, S: Source, K: Sink>(
     sink: &mut K,
 ) -> Served
     requires passed { ArePassed (parameters_of params.now) }
-    ensures served { HasServed (parameters_of params.now) true (ends (S.told source.old) (K.told sink.old))
-        (ends (S.told source.new) (K.told sink.new)) result }
-    ensures good { IfSome (S.told source.old).left (λ bytes. IsGoodInput bytes → result.status ≡ 4 → ⊥) }
-    ensures bad { IfSome (S.told source.old).left (λ bytes. IsBad bytes → result.status ≡ 0 → ⊥) }
+    ensures served { HasServed (empty_version (parameters_of params.now)) true
+        (ends (S.told source.old) (K.told sink.old)) (ends (S.told source.new) (K.told sink.new)) result }
+    ensures good { IfSome (S.told source.old).left (λ bytes. AreGoodFrames bytes → result.status ≡ 4 → ⊥) }
+    ensures bad { IfSome (S.told source.old).left (λ bytes. AreBadFrames bytes → result.status ≡ 0 → ⊥) }
 {
-    let alone = Alone::open(rt, alloc, params);
-    serve_opened(alloc, params, alone, source, sink)
+    match Book::open(alloc, params) {
+        Ok(book) => serve_book_alone(rt, alloc, params, book, source, sink),
+        Err(_) => NO_MEMORY,
+    }
 }
 
-// The same by any server of rounds that has answered none, if there was memory to open it.
-fn serve_opened<A: Answers + Drop, S: Source, K: Sink>(
+// The same from the set of a book, whose journal is empty.
+fn serve_book_alone<R: Threads + Sync, S: Source, K: Sink>(
+    rt: &R,
     alloc: Global,
     params: &Params,
-    opened: Result<A, AllocError>,
+    book: Book<Cache>,
     source: &mut S,
     sink: &mut K,
 ) -> Served
     requires passed { ArePassed (parameters_of params.now) }
-    requires under { IfOk opened (λ answers. A.is_under answers (parameters_of params.now)) }
-    requires none_answered { IfOk opened (λ answers. A.journal answers ≡ []) }
-    ensures served { (alone : Bool) → IfOk opened (λ answers. A.alone answers ≡ alone) → HasServed (parameters_of params.now) alone (ends (S.told source.old) (K.told sink.old))
-        (ends (S.told source.new) (K.told sink.new)) result }
-    ensures good { IfSome (S.told source.old).left (λ bytes. IsGoodInput bytes → result.status ≡ 4 → ⊥) }
-    ensures bad { IfSome (S.told source.old).left (λ bytes. IsBad bytes → result.status ≡ 0 → ⊥) }
+    requires same { book.parameters ≡ parameters_of params.now }
+    requires none_entered { book.journal ≡ [] }
+    ensures served { HasServed (start_of book) true
+        (ends (S.told source.old) (K.told sink.old)) (ends (S.told source.new) (K.told sink.new)) result }
+    ensures good { IfSome (S.told source.old).left (λ bytes. AreGoodFrames bytes → result.status ≡ 4 → ⊥) }
+    ensures bad { IfSome (S.told source.old).left (λ bytes. AreBadFrames bytes → result.status ≡ 0 → ⊥) }
 {
-    match opened {
-        Ok(answers) => serve_by(alloc, params, answers, source, sink),
-        Err(_) => Served {
-            status: NO_MEMORY,
-            entries: 0,
-            replies: 0,
-        },
-    }
+    let round = |book: Book<Cache>, requests: Vec<Request>| -> Result<Round, AllocError>
+        requires passed { ArePassed (parameters_of params.now) }
+        requires asked { IsAsked (parameters_of params.now) book requests.items }
+        ensures { IfOk result (λ round. HasAnsweredRound (parameters_of params.entry.now) true book round.book requests.items round.replies.items) }
+    { answer_alone(rt, alloc, params, book, requests) };
+    let set = OneSet::new(alloc, book, true, round);
+    serve_frames(alloc, params, set, source, sink)
 }
 
-// The same by one that could be opened.
-fn serve_by<A: Answers + Drop, S: Source, K: Sink>(
+// Answers a round by one lane.
+fn answer_alone<R: Threads + Sync>(
+    rt: &R,
     alloc: Global,
     params: &Params,
-    answers: A,
-    source: &mut S,
-    sink: &mut K,
-) -> Served
+    book: Book<Cache>,
+    requests: Vec<Request>,
+) -> Result<Round, AllocError>
     requires passed { ArePassed (parameters_of params.now) }
-    requires under { A.is_under answers (parameters_of params.now) }
-    requires none_answered { A.journal answers ≡ [] }
-    ensures { HasServed (parameters_of params.now) (A.alone answers) (ends (S.told source.old) (K.told sink.old))
-        (ends (S.told source.new) (K.told sink.new)) result }
+    requires asked { IsAsked (parameters_of params.now) book requests.items }
+    ensures { IfOk result (λ round. HasAnsweredRound (parameters_of params.now) true book round.book requests.items round.replies.items) }
 {
-    let mut run = Run::new(alloc, answers);
-    let status = status_of(run.serve_all(alloc, params, source, sink));
-    Served {
-        status,
-        entries: run.entries,
-        replies: run.replies,
-    }
-}
-
-// The status of a run by how it ended.
-fn status_of(end: Result<(), Stop>) -> u8
-    ensures { result ≡ status_of end }
-{
-    match end {
-        Ok(()) => 0,
-        Err(Stop::BadInput) => 4,
-        Err(Stop::ReadFault) => 5,
-        Err(Stop::WriteFault) => 6,
-        Err(Stop::NoMemory) => NO_MEMORY,
-    }
+    round_alone(rt, alloc, params, book, requests)
 }

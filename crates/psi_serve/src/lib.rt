@@ -1,15 +1,11 @@
-//! Serving rounds of requests from bytes to bytes.
+//! Serving rounds of requests from bytes to bytes, by one set.
 //!
-//! The input is read in pieces of 65,536 bytes at most. Its frames fall into rounds; each round is answered, and its
-//! replies are written and flushed, before the next one begins.
+//! The input is read in pieces of 65,536 bytes at most. Its frames fall into rounds; each round is answered as soon as it
+//! was read, and its replies are written and flushed before the next one begins.
 #![tactic(auto)]
 
-mod alone;
-mod answers;
 mod calls;
-mod lanes;
-mod run;
-mod stop;
+mod one_set;
 #[cfg(test)]
 mod tests;
 

@@ -3,7 +3,7 @@ ghost use Rattle.std.specs.Prelude.{◌≤◌};
 
 use crate::serve_alone;
 use noise_ledger::{Params, check};
-use psi_outside::{MemorySink, MemorySource};
+use psi_outside::{MemorySink, MemorySource, Source};
 use query_pool::Served;
 use std::alloc::{AllocError, Global};
 use std::test::Fail;
@@ -115,6 +115,41 @@ fn earlier_rounds_stand(rt: HostRuntime) -> Result<(), Fail> {
         );
     }
     Ok(())
+}
+
+// The status where an output call with this number fails, and what one read more then takes from the source.
+fn left_behind<R: Threads + Sync>(rt: &R, alloc: Global, fails: u64) -> Option<(u8, Vec<u8>)> {
+    let params = Params::of(1, 1, 0);
+    check(&params).ok()?;
+    let input = Vec::from_slice(alloc, PUTS).ok()?;
+    let mut source = MemorySource::open(input, 26, Vec::new(alloc));
+    let mut sink = MemorySink::open(alloc, 1 << 20, Vec::from_slice(alloc, &[fails]).ok()?).ok()?;
+    let served = serve_alone(rt, alloc, &params, &mut source, &mut sink);
+    let mut rest = [0; 26];
+    let count = source.read(&mut rest).ok()?;
+    Some((
+        served.status,
+        Vec::from_slice(alloc, rest.get(..count)?).ok()?,
+    ))
+}
+
+// A round is answered before the next one is read: where its write or flush fails, the source still has all rounds behind it.
+#[test]
+fn rounds_are_answered_as_they_are_read(rt: HostRuntime) {
+    let alloc = rt.alloc();
+    let rows: [(u64, &[u8]); 6] = [
+        (0, &PUTS[26..52]),
+        (1, &PUTS[26..52]),
+        (2, &PUTS[52..]),
+        (3, &PUTS[52..]),
+        (4, b""),
+        (5, b""),
+    ];
+    for (fails, rest) in rows {
+        let (status, left) = left_behind(&rt, alloc, fails).expect(&rt, "memory");
+        assert_eq!(rt; status, 6, "{fails}");
+        assert!(rt; left.as_slice() == rest, "{fails}");
+    }
 }
 
 // What stands before a fault is served.

@@ -22,3 +22,7 @@ pub mod Telling
 pub mod OneByOne
 pub mod Answering
 pub mod LaneRuns
+pub mod Going
+pub mod Pieces
+pub mod Leaving
+pub mod Once

@@ -8,3 +8,7 @@ pub mod Dealing
 pub mod Jobs
 pub mod Exchanges
 pub mod Tried
+pub mod Serving
+pub mod Servers
+pub mod Inputs
+pub mod Inner

@@ -10,21 +10,22 @@ use std::alloc::{AllocError, Global};
 
 /// Requests by lane, and the lane of each.
 #[derive(Drop)]
-pub(crate) struct Dealt {
+pub struct Dealt {
     /// The requests of each lane, in their order.
-    pub(crate) lanes: Vec<Vec<Numbered>>,
+    pub lanes: Vec<Vec<Numbered>>,
     /// The lanes of the requests, in the requests' order.
-    pub(crate) order: Vec<u8>,
+    pub order: Vec<u8>,
 }
 
-/// Deals the requests to so many lanes, each to its session's, with their numbers in the round.
+/// Deals the requests to so many lanes, with their numbers in the round: each to the lane with the number of its session modulo
+/// the number of lanes.
 ///
-/// There are at most 4096 requests, and some lanes.
+/// There are at most 4096 requests, and one lane at least.
 ///
 /// # Errors
 ///
 /// If memory runs out.
-pub(crate) fn deal(alloc: Global, requests: Vec<Request>, workers: u8) -> Result<Dealt, AllocError>
+pub fn deal(alloc: Global, requests: Vec<Request>, workers: u8) -> Result<Dealt, AllocError>
     requires some { 1 ≤ workers }
     requires few { length requests.items ≤ 4096 }
     ensures number { IfOk result (λ dealt. length dealt.lanes.items ≡ workers) }
@@ -93,7 +94,7 @@ fn add(lanes: &mut Vec<Vec<Numbered>>, lane: u8, numbered: Numbered) -> Result<(
 /// # Errors
 ///
 /// If memory runs out.
-pub(crate) fn merge(
+pub fn merge(
     alloc: Global,
     order: Vec<u8>,
     replies: Vec<Vec<Reply>>,

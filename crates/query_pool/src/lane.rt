@@ -22,9 +22,11 @@ use std::thread::Threads;
 
 /// A request with its number in its round, from 0.
 #[derive(Drop)]
-pub(crate) struct Numbered {
-    pub(crate) index: u32,
-    pub(crate) request: Request,
+pub struct Numbered {
+    /// Its number.
+    pub index: u32,
+    /// The request.
+    pub request: Request,
 }
 
 /// What a lane begins with.

@@ -1,8 +1,13 @@
-use Rattle.std.proofs.Common.{ℕ, nat_eq, ap}
-use Rattle.std.proofs.lemmas.Result.{IfOk-weaker}
+use Rattle.std.specs.Prelude.{Some}
+use Rattle.std.proofs.Common.{nat_eq, refl}
+use Rattle.noise_ledger.specs.Verdicts.{parameters_of}
+use Rattle.psi_bundle.specs.Versions.{empty_version}
+use Rattle.query_pool.proofs.Leaving.{none-served}
+use Rattle.psi_serve.specs.Serving.{one_set}
+use Rattle.psi_serve.proofs.Begun.{none-serve}
 use Rattle.psi_serve.proofs.calls.serve.Goals as goal
 
-pub returns-clause-served : goal.returns-clause-served
-returns-clause-served g c =
-    c.serve_opened.ensures.served (nat_eq c.args.shape.workers 1)
-    (IfOk-weaker c.open-lanes.result _ _ (λ lanes same. ap (λ (w : ℕ). nat_eq w 1) same) c.open-lanes.ensures.workers)
+pub returns-in-Err-clause-served : goal.returns-in-Err-clause-served
+returns-in-Err-clause-served g c =
+    let start = empty_version (parameters_of c.args.params.now) in
+    none-served (one_set (record { alone = nat_eq c.args.shape.workers 1; start = Some start })) _ _ (none-serve (nat_eq c.args.shape.workers 1) start) refl refl refl
