@@ -6,7 +6,7 @@ use Rattle.std.specs.Option.{IfSome, IsSomeAnd}
 use Rattle.std.proofs.lemmas.List.Elements.{All-from_recursion, All-head, recursion_from_All}
 use Rattle.psi_residue.specs.Parameters.{Parameters}
 use Rattle.noise_ledger.specs.Verdicts.{ArePassed}
-use Rattle.psi_outside.specs.Causes.{Rose}
+use Rattle.psi_outside.specs.Causes.{Rose, count_on}
 use Rattle.psi_outside.specs.Ends.{Ends, FilesTold, SinkTold}
 use Rattle.psi_bundle.specs.declared.history.Entry.{Entry}
 use Rattle.psi_bundle.specs.Versions.{empty_version}
@@ -16,47 +16,20 @@ use Rattle.psi_frames.specs.Served.{text_of}
 use Rattle.psi_frames.proofs.Feeding.{no_fault}
 use Rattle.psi_frames.proofs.FrameLaws.{same_front}
 use Rattle.psi_frames.proofs.Readings.{begins-frame}
-use Rattle.psi_serve.specs.Serving.{IsFlushedBehind, IsServingStatus}
+use Rattle.query_pool.specs.Serving.{IsFlushedBehind, IsServingStatus}
+use Rattle.psi_serve.proofs.OneSets.{replies-of}
 use Rattle.psi_cli.specs.declared.status.Status.{Status}
 use Rattle.psi_cli.specs.declared.status.Status.TheVariants as status
-use Rattle.psi_cli.specs.Answered.{AreBadFrames, AreGoodFrames}
+use Rattle.query_pool.specs.Inputs.{AreBadFrames, AreGoodFrames}
+use Rattle.query_pool.proofs.Once.{not-both}
 use Rattle.psi_cli.specs.Headline.{AnswersInput, Headline, IsAnswered}
 use Rattle.psi_cli.specs.Reading.{IsEnded}
 use Rattle.psi_cli.specs.Runs.{RefusesParameters, RunsRounds, ServedSo, ServesRounds}
 use Rattle.psi_cli.specs.Statuses.{Ended, IsOrFails, IsReadWhole, IsRefusedOrFails, IsStatus}
 use Rattle.psi_cli.specs.Worlds.{Given, IsFlushedSo, NoReadFailed, NothingRead, World, ends_of}
 use Rattle.psi_cli.proofs.QueryOpenings.{answers-open, empty-known}
-use Rattle.psi_cli.proofs.Shown.{spellable}
 
 -- ---- whole frames and bad ones
-
--- the last of some frames
-behind : {A : Type 0} (P : A → Type 0) (gs hs fs : List A) → fs ≡ gs ++ hs → All P fs → All P hs
-behind {A} P gs hs fs e each = All-from_recursion P hs (split gs (recursion_from_All P (gs ++ hs) (subst (All P) e each))) where
-  split : (xs : List A) → AllByRecursion P (xs ++ hs) → AllByRecursion P hs
-  split [] h = h
-  split (x ∷ xs) h = split xs h.1
-
--- whole frames to the end have no fault
-one_fault : (table : Table) (bytes : List ℕ) (fs gs : List Frame) (fault : Option Fault) → AreWholeFrames table bytes fs None → AreWholeFrames table bytes gs fault → IsSome fault → ⊥
-one_fault table bytes fs gs None all some is = absurd (cc)
-one_fault table bytes fs gs (Some fault) all some is =
-    let text : take most_bytes bytes ≡ frames_bytes fs = all.whole ∙ ap (λ (t : List ℕ). frames_bytes fs ++ t) (all.ended refl) ∙ append-nil (frames_bytes fs) in
-    let front = same_front gs fs some.rest (spellable table gs some.each) (spellable table fs all.each) (sym some.whole ∙ text) in
-    begins_none front.0 front.2 (behind (IsFrame table) gs front.0 fs front.1 all.each) where
-      begins_none : (hs : List Frame) → some.rest ≡ frames_bytes hs → All (IsFrame table) hs → ⊥
-      begins_none [] e each = absurd (let none = no_fault table in let met : front_fault table [] ≡ Some fault = ap (front_fault table) (sym e) ∙ some.first in cc)
-      begins_none (h ∷ hs) e each =
-          let met : front_fault table (frames_bytes (h ∷ hs)) ≡ Some fault = ap (front_fault table) (sym e) ∙ some.first in
-          let none = (begins-frame table h (frames_bytes hs) (All-head (IsFrame table) h hs each)).faultless in
-          absurd (cc)
-
--- whole frames to the end are no bad ones
-good_bad : (bytes : List ℕ) → AreGoodFrames bytes → AreBadFrames bytes → ⊥
-good_bad bytes good b = by_end b.bad where
-  by_end : IsSome b.fault ⊎ (most_bytes < length bytes) → ⊥
-  by_end (inl some) = one_fault request_table bytes good.frames b.frames b.fault good.whole b.whole some
-  by_end (inr many) = omega (arith, good.few_bytes, many)
 
 told_bad : (left : Option (List ℕ)) (input : List ℕ) → IfSome left (λ bytes. bytes ≡ input) → AreBadFrames input → IfSome left AreBadFrames
 told_bad None input told bad = tt
@@ -64,11 +37,11 @@ told_bad (Some bytes) input told bad = subst AreBadFrames (sym told) bad
 
 told_good : (left : Option (List ℕ)) (input : List ℕ) → IfSome left (λ bytes. bytes ≡ input) → AreGoodFrames input → IsSomeAnd left AreBadFrames → ⊥
 told_good None input told good b = b
-told_good (Some bytes) input told good b = good_bad bytes (subst AreGoodFrames (sym told) good) b
+told_good (Some bytes) input told good b = not-both bytes (subst AreGoodFrames (sym told) good) b
 
 told_not_bad : (left : Option (List ℕ)) (input : List ℕ) → IfSome left (λ bytes. bytes ≡ input) → AreBadFrames input → IsSomeAnd left AreGoodFrames → ⊥
 told_not_bad None input told b good = good
-told_not_bad (Some bytes) input told b good = good_bad bytes good (subst AreBadFrames (sym told) b)
+told_not_bad (Some bytes) input told b good = not-both bytes good (subst AreBadFrames (sym told) b)
 
 -- what rounds write with 0
 told_text : (p : Parameters) (alone : Bool) (left : Option (List ℕ)) (input text : List ℕ) (old new : Option (List ℕ)) → IfSome left (λ bytes. bytes ≡ input)
@@ -79,6 +52,10 @@ told_text p alone (Some bytes) input text old new told answered appended = (text
 flushed_behind : (old new : SinkTold) (text : List ℕ) → IsFlushedBehind old new text → Appends old.written new.written text → IsFlushedSo old new
 flushed_behind old new text (inl all) appended = inl all
 flushed_behind old new text (inr none) appended = inr (subst (λ (t : List ℕ). Appends old.written new.written t) none.0 appended, none.1)
+
+-- one fault more
+rose-once : {before now : ℕ} → now ≡ count_on before → Rose before now
+rose-once once = omega (arith, once)
 
 -- no entries were given
 none_given : (P : Entry → Type 0) → All P []
@@ -141,16 +118,17 @@ module _ (p : Parameters) (alone : Bool) (old new : Ends) (n : ℕ) where
   rounds_done runs e =
       let so = served_so runs (λ f. omega (arith, e, f)) in
       let d = so.leaves.done (so.status_is ∙ e) in
-      told_text p alone old.source.left d.input (text_of d.answered.sents) old.sink.written new.sink.written d.told
+      let r = replies-of (empty_version p) alone d.frames d.replied.sents d.replied.replies in
+      told_text p alone old.source.left d.input (text_of d.replied.sents) old.sink.written new.sink.written d.told
       (record {
         few_bytes = d.size;
         frames = d.frames;
         whole = d.whole;
-        sents = d.answered.sents;
-        replies = d.answered.replies;
-        opens = answers-open p (empty_version p) [] d.frames d.answered.replies.rounds d.answered.replies.history d.answered.sents so.passed (empty-known p) (none_given _) d.whole.each d.answered.replies.are_rounds.all d.answered.replies.served;
+        sents = d.replied.sents;
+        replies = r;
+        opens = answers-open p (empty_version p) [] d.frames r.rounds r.serve.0 d.replied.sents so.passed (empty-known p) (none_given _) d.whole.each r.are_rounds.all r.serve.1.served;
         text_is = refl;
-      }) d.answered.written
+      }) d.replied.written
 
   pub rounds_ended : RunsRounds p alone old new n → n ≡ 0 → IsEnded old.source new.source
   rounds_ended runs e =
@@ -160,11 +138,11 @@ module _ (p : Parameters) (alone : Bool) (old new : Ends) (n : ℕ) where
   rounds_flushed runs e =
       let so = served_so runs (λ f. omega (arith, e, f)) in
       let d = so.leaves.done (so.status_is ∙ e) in
-      flushed_behind old.sink new.sink (text_of d.answered.sents) d.answered.flushed d.answered.written
+      flushed_behind old.sink new.sink (text_of d.replied.sents) d.replied.flushed d.replied.written
 
   pub rounds_unfailed : RunsRounds p alone old new n → n ≡ 0 → new.sink.faults ≡ old.sink.faults
   rounds_unfailed runs e =
-      let so = served_so runs (λ f. omega (arith, e, f)) in (so.leaves.done (so.status_is ∙ e)).answered.no_write_failed
+      let so = served_so runs (λ f. omega (arith, e, f)) in (so.leaves.done (so.status_is ∙ e)).replied.no_write_failed
 
   pub rounds_quiet : RunsRounds p alone old new n → IsReadWhole n → new.source.faults ≡ old.source.faults
   rounds_quiet runs (inl e) =
@@ -184,7 +162,7 @@ module _ (p : Parameters) (alone : Bool) (old new : Ends) (n : ℕ) where
 
   pub rounds_read : RunsRounds p alone old new n → n ≡ 5 → Rose old.source.faults new.source.faults
   rounds_read runs e =
-      let so = served_so runs (λ f. omega (arith, e, f)) in (so.leaves.read_fault (so.status_is ∙ e)).failed
+      let so = served_so runs (λ f. omega (arith, e, f)) in rose-once (so.leaves.read_fault (so.status_is ∙ e)).failed
 
   pub rounds_write : RunsRounds p alone old new n → n ≡ 6 → Rose old.sink.faults new.sink.faults
   rounds_write runs e =
@@ -195,7 +173,7 @@ module _ (p : Parameters) (alone : Bool) (old new : Ends) (n : ℕ) where
   rounds_bad_only (inr refused) passed b = absurd (refused.refused passed)
   rounds_bad_only (inl so) passed b = by_number so.leaves.statuses where
     by_number : IsServingStatus so.served.status → IsOrFails status.BadInput n
-    by_number (inl e) = let d = so.leaves.done e in absurd (told_good old.source.left d.input d.told (record { few_bytes = d.size; frames = d.frames; whole = d.whole }) b)
+    by_number (inl e) = let d = so.leaves.done e in absurd (told_good old.source.left d.input d.told (record { size = d.size; frames = d.frames; whole = d.whole }) b)
     by_number (inr (inl e)) = inl (sym so.status_is ∙ e)
     by_number (inr (inr (inl e))) = inr (inl (sym so.status_is ∙ e))
     by_number (inr (inr (inr (inl e)))) = inr (inr (inl (sym so.status_is ∙ e)))

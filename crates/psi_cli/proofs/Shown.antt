@@ -11,7 +11,10 @@ use Rattle.psi_frames.specs.Frames.{AreWholeFrames, IsFrame, IsSpellable, Table,
 use Rattle.psi_frames.specs.Served.{Sent, text_of}
 use Rattle.psi_frames.proofs.FrameLaws.{length-frame_append, same_front}
 use Rattle.query_pool.specs.declared.round.Served.{Served}
+use Rattle.psi_bundle.specs.Versions.{empty_version}
+use Rattle.psi_frames.proofs.OneFrames.{one_list}
 use Rattle.psi_serve.specs.Serving.{AreRepliesTo, HasServed}
+use Rattle.psi_serve.proofs.OneSets.{replies-of}
 use Rattle.psi_demo.specs.Items.{demo_parameters}
 use Rattle.psi_demo.specs.Scripts.{IsScriptText}
 use Rattle.psi_demo.specs.Summaries.{ForTally}
@@ -26,55 +29,33 @@ use Rattle.psi_cli.specs.Worlds.{IsUntouched}
 
 -- ---- what serves a script
 
--- each frame has bytes
-no_frames : (fs : List Frame) → frames_bytes fs ≡ [] → fs ≡ []
-no_frames [] e = refl
-no_frames (f ∷ fs) e = absurd (omega (arith, ap length e, length-frame_append f (frames_bytes fs)))
-
--- no bytes are two lists of frames
-same_frames : (fs gs : List Frame) → All IsSpellable fs → All IsSpellable gs → frames_bytes fs ≡ frames_bytes gs → fs ≡ gs
-same_frames fs gs each_f each_g e =
-    let front = same_front fs gs [] each_f each_g (append-nil (frames_bytes fs) ∙ e) in
-    let none = no_frames front.0 (sym front.2) in
-    sym (front.1 ∙ ap (λ (hs : List Frame). fs ++ hs) none ∙ append-nil fs)
-
--- frames of a table are spellable
-pub spellable : (table : Table) (fs : List Frame) → All (IsFrame table) fs → All IsSpellable fs
-spellable table fs each = λ k d lt. (each k d lt).spellable
-
--- bytes are whole frames to the end in one way
-same_whole : (table : Table) (bytes : List ℕ) (fs gs : List Frame) → AreWholeFrames table bytes fs None → AreWholeFrames table bytes gs None → fs ≡ gs
-same_whole table bytes fs gs a b = same_frames fs gs (spellable table fs a.each) (spellable table gs b.each) (sym (text fs a) ∙ text gs b) where
-  text : (hs : List Frame) → AreWholeFrames table bytes hs None → take most_bytes bytes ≡ frames_bytes hs
-  text hs h = h.whole ∙ ap (λ (t : List ℕ). frames_bytes hs ++ t) (h.ended refl) ∙ append-nil (frames_bytes hs)
-
 -- the text of replies to frames
-replies_serve : (workers : ℕ) (frames : List Frame) (sents : List Sent) (text : List ℕ) → AreRepliesTo demo_parameters (nat_eq workers 1) frames sents → text ≡ text_of sents → ServesFrames workers frames text
+replies_serve : (workers : ℕ) (frames : List Frame) (sents : List Sent) (text : List ℕ) → AreRepliesTo demo_parameters (empty_version demo_parameters) (nat_eq workers 1) frames sents → text ≡ text_of sents → ServesFrames workers frames text
 replies_serve workers frames sents text r e = record {
   serving = record {
     rounds = r.rounds;
     are_rounds = r.are_rounds;
-    serving = record { history = r.history; sents = sents; served = r.served; text_is = e };
+    serving = record { history = r.serve.0; sents = sents; served = r.serve.1.served; text_is = e };
   };
   one_lane = λ one. record {
     rounds = r.rounds;
     are_rounds = r.are_rounds;
-    one_lane = record { history = r.history; sents = sents; served = r.served; one_lane = r.one_lane (eq-eqb workers 1 one); text_is = e };
+    one_lane = record { history = r.serve.0; sents = sents; served = r.serve.1.served; one_lane = r.serve.1.one_lane (eq-eqb workers 1 one); text_is = e };
   };
 }
 
 -- what a run in memory wrote to a sink that held nothing serves the frames of its input
 pub serves_frames : (workers : ℕ) (bytes input replies : List ℕ) (frames : List Frame) (old new : Ends) (served : Served)
-    → old.source.left ≡ Some input → input ≡ bytes → old.sink.written ≡ Some [] → new.sink.written ≡ Some replies → HasServed demo_parameters (nat_eq workers 1) old new served → served.status ≡ 0
+    → old.source.left ≡ Some input → input ≡ bytes → old.sink.written ≡ Some [] → new.sink.written ≡ Some replies → HasServed (empty_version demo_parameters) (nat_eq workers 1) old new served → served.status ≡ 0
     → AreWholeFrames request_table bytes frames None → ServesFrames workers frames replies
 serves_frames workers bytes input replies frames old new served left is none now so done whole =
     let d = so.done done in
     let told : input ≡ d.input = subst (λ (o : Option (List ℕ)). IfSome o (λ b. b ≡ d.input)) left d.told in
-    let same : d.frames ≡ frames = same_whole request_table d.input d.frames frames d.whole (subst (λ (b : List ℕ). AreWholeFrames request_table b frames None) (sym is ∙ told) whole) in
-    let text : Appends (Some []) (Some replies) (text_of d.answered.sents) =
-    subst (λ (o : Option (List ℕ)). Appends (Some []) o (text_of d.answered.sents)) now
-    (subst (λ (o : Option (List ℕ)). Appends o new.sink.written (text_of d.answered.sents)) none d.answered.written) in
-    replies_serve workers frames d.answered.sents replies (subst (λ (fs : List Frame). AreRepliesTo demo_parameters (nat_eq workers 1) fs d.answered.sents) same d.answered.replies) text
+    let same : d.frames ≡ frames = (one_list request_table d.input d.frames frames None None d.whole (subst (λ (b : List ℕ). AreWholeFrames request_table b frames None) (sym is ∙ told) whole)).0 in
+    let text : Appends (Some []) (Some replies) (text_of d.replied.sents) =
+    subst (λ (o : Option (List ℕ)). Appends (Some []) o (text_of d.replied.sents)) now
+    (subst (λ (o : Option (List ℕ)). Appends o new.sink.written (text_of d.replied.sents)) none d.replied.written) in
+    replies_serve workers frames d.replied.sents replies (subst (λ (fs : List Frame). AreRepliesTo demo_parameters (empty_version demo_parameters) (nat_eq workers 1) fs d.replied.sents) same (replies-of (empty_version demo_parameters) (nat_eq workers 1) d.frames d.replied.sents d.replied.replies)) text
 
 -- the summary of what serves a script
 pub is_demonstration : (number workers : ℕ) (bytes replies text : List ℕ) → IsScriptText number bytes

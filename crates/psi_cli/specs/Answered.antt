@@ -7,6 +7,7 @@ use Rattle.psi_frames.specs.Frames.{AreWholeFrames, Fault, most_bytes, request_t
 use Rattle.psi_demo.specs.Items.{asked_tags, demo_parameters}
 use Rattle.psi_demo.specs.Summaries.{AreUnplaced}
 use Rattle.psi_receiver.specs.Faults.{HavePlacement}
+use Rattle.query_pool.specs.Inputs.{AreBadFrames, AreGoodFrames}
 use Rattle.psi_cli.specs.Kinds.{IsAlone, Kind, is_alone}
 use Rattle.psi_cli.specs.Readers.{Reader}
 use Rattle.psi_cli.specs.Worlds.{Given}
@@ -106,19 +107,6 @@ IsReading Kind.Help = ⊥
 IsReading Kind.NoCommand = ⊥
 
 -- ---- bad inputs, items without a placement, and what is complete
-
--- an input that is no whole frames: it has a bad frame, ends within a frame, or is too long
-pub record AreBadFrames (bytes : List ℕ) : Type 0 where
-  pub frames : List Frame
-  pub fault : Option Fault
-  pub whole : AreWholeFrames request_table bytes frames fault
-  pub bad : IsSome fault ⊎ (most_bytes < length bytes)
-
--- an input that is whole frames to its end
-pub record AreGoodFrames (bytes : List ℕ) : Type 0 where
-  pub few_bytes : length bytes ≤ most_bytes
-  pub frames : List Frame
-  pub whole : AreWholeFrames request_table bytes frames None
 
 -- what was told is a bad input, as far as it is told
 abbrev pub IsBadInput : Kind → Given → Type 0

@@ -1,5 +1,5 @@
 -- The headline: what `serve` and `replay` have done when they end with 0.
-use Rattle.std.specs.Prelude.{◌≡◌, ℕ, ◌≤◌, Bool, List, length, None, IfSome}
+use Rattle.std.specs.Prelude.{◌≡◌, ℕ, ◌≤◌, Bool, List, [], length, None, IfSome}
 use Rattle.std.specs.Io.KnownBytes.{Appends}
 use Rattle.psi_residue.specs.Parameters.{Parameters}
 use Rattle.psi_bundle.specs.Versions.{empty_version}
@@ -21,8 +21,8 @@ pub record IsAnswered (p : Parameters) (alone : Bool) (bytes text : List ℕ) : 
   pub frames : List Frame
   pub whole : AreWholeFrames request_table bytes frames None
   pub sents : List Sent
-  pub replies : AreRepliesTo p alone frames sents
-  pub opens : AnswersOpen p (empty_version p) replies.history (exchanges (request_rounds p replies.rounds) sents)
+  pub replies : AreRepliesTo p (empty_version p) alone frames sents
+  pub opens : AnswersOpen p (empty_version p) replies.serve.0 (exchanges (request_rounds p replies.rounds) sents)
   pub text_is : text ≡ text_of sents
 
 -- the input is answered, where it is told, and the text of its replies stands behind what the sink held, where that is told
@@ -45,7 +45,7 @@ pub record Headline (p : Parameters) (alone : Bool) (old new : World) : Type 0 w
 pub record IsOneLaneAnswer (p : Parameters) (bytes text : List ℕ) : Type 0 where
   pub frames : List Frame
   pub whole : AreWholeFrames request_table bytes frames None
-  pub one_lane : IsOneLaneTextOf p frames text
+  pub one_lane : IsOneLaneTextOf p (empty_version p) [] frames text
 
 -- the same, by one lane
 abbrev pub AnswersOnOneLane : Parameters → SourceTold → (old new : SinkTold) → Type 0

@@ -2,6 +2,7 @@
 use Rattle.std.specs.Prelude.{◌≡◌, ◌⊎◌, ℕ, Bool, true, ⊤}
 use Rattle.psi_residue.specs.Parameters.{Parameters}
 use Rattle.noise_ledger.specs.Verdicts.{ArePassed}
+use Rattle.psi_bundle.specs.Versions.{empty_version}
 use Rattle.psi_outside.specs.Ends.{Ends}
 use Rattle.query_pool.specs.declared.round.Served.{Served}
 use Rattle.psi_serve.specs.Serving.{HasServed}
@@ -22,7 +23,7 @@ pub record ServedSo (p : Parameters) (alone : Bool) (old new : Ends) (n : ℕ) :
   pub passed : ArePassed p
   pub served : Served
   pub status_is : served.status ≡ n
-  pub leaves : HasServed p alone old new served
+  pub leaves : HasServed (empty_version p) alone old new served
 
 -- the parameters are refused, and nothing is read or written
 pub record RefusesParameters (p : Parameters) (old new : Ends) (n : ℕ) : Type 0 where
