@@ -93,7 +93,7 @@ fn build<R: Threads + Wait + Sync, G: Gate>(
     seat: &mut Seat<Cache>,
     shelf: &mut Shelf,
     params: &Params,
-    (skip, budget): (u16, u8),
+    turn: (u16, u8),
     gate: &G,
 ) -> Option<Told>
     requires passed { ArePassed (parameters_of params.now) }
@@ -105,7 +105,7 @@ fn build<R: Threads + Wait + Sync, G: Gate>(
     ensures base { seat.new.knows.base ≡ seat.old.knows.base }
     ensures shelf { All (IsBundleBlock (parameters_of params.now)) shelf.new }
 {
-    let budget = u32::from(budget);
+    let (skip, budget) = (turn.0, u32::from(turn.1));
     let built = build_some(rt, alloc, sender, seat, shelf, params, skip, budget, gate).ok()?;
     Some(what_is_told(&built))
 }
