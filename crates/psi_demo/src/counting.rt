@@ -24,7 +24,8 @@ pub fn summary<R: Threads + Sync>(
     number: u64,
     replies: &[u8],
 ) -> Result<String, SumFault>
-    ensures text { IfOk result (λ text. ForTally replies.now (λ tally. IsSummary number tally (string_bytes text))) }
+    ensures text { IfOk result (λ text.
+        ForTally replies.now (λ tally. IsSummary number tally (string_bytes text))) }
     ensures fault { IfErr result (IsSumFault number replies.now) }
 {
     let told = read_replies(alloc, replies)?;

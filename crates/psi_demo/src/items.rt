@@ -81,7 +81,8 @@ fn push_tags(
     count: u32,
 ) -> Result<(), AllocError>
     requires { first + step * count < 2 ^ 32 }
-    ensures { OnOk result (tags.new.items ≡ tags.old.items ++ run (item_tag number) first step count) }
+    ensures { OnOk result (tags.new.items ≡ tags.old.items
+        ++ run (item_tag number) first step count) }
 {
     for k in 0..count {
         push_tag(tags, number, first + step * k)?;

@@ -18,7 +18,8 @@ const BEFORE_BODY: u64 = 11;
 /// The replies whose frames the bytes are, one after another: they are read so in one way. `Torn` comes exactly where the bytes are no list of whole
 /// reply frames, with the offset of the first part that begins none; the only other error is memory that runs out.
 pub fn read_replies(alloc: Global, bytes: &[u8]) -> Result<Vec<Reply>, SumFault>
-    ensures read { IfOk result (λ replies. (sents : List Sent) × AreReplies bytes.now sents × (replies.items ≡ replies_of sents)) }
+    ensures read { IfOk result (λ replies.
+        (sents : List Sent) × AreReplies bytes.now sents × (replies.items ≡ replies_of sents)) }
     ensures fault { IfErr result (IsReadFault bytes.now) }
 {
     let mut feed = fed(alloc, bytes)?;
@@ -54,8 +55,11 @@ fn fed(alloc: Global, bytes: &[u8]) -> Result<Feed, AllocError>
 
 // Appends the reply that a frame tells, if it tells one, and answers whether it does.
 fn add_reply(alloc: Global, frame: &Frame, replies: &mut Vec<Reply>) -> Result<bool, AllocError>
-    ensures told { IfOk result (λ told. told ≡ true → (r : Reply) × Tells frame.now.kind frame.now.body r × (replies.new.items ≡ replies.old.items ++ r ∷ [])) }
-    ensures untold { IfOk result (λ told. told ≡ false → (r : Reply) → Tells frame.now.kind frame.now.body r → ⊥) }
+    ensures told { IfOk result (λ told. told ≡ true → (r : Reply)
+        × Tells frame.now.kind frame.now.body r × (replies.new.items ≡ replies.old.items
+        ++ r ∷ [])) }
+    ensures untold { IfOk result (λ told.
+        told ≡ false → (r : Reply) → Tells frame.now.kind frame.now.body r → ⊥) }
 {
     match read_answer(alloc, frame)? {
         Some(reply) => {
@@ -69,7 +73,8 @@ fn add_reply(alloc: Global, frame: &Frame, replies: &mut Vec<Reply>) -> Result<b
 // Whether the bytes that were fed may end where they do.
 fn may_end(feed: &Feed) -> bool
     ensures ended { result ≡ true → end_fault feed.now.fault feed.now.rest ≡ None }
-    ensures faulty { result ≡ false → (fault : Fault) × (end_fault feed.now.fault feed.now.rest ≡ Some fault) }
+    ensures faulty { result ≡ false → (fault : Fault) × (end_fault feed.now.fault feed.now.rest
+        ≡ Some fault) }
 {
     match feed.finish() {
         Ok(()) => true,

@@ -71,7 +71,8 @@ fn write_script(
     requires first { length first.items < 2 ^ 20 }
     requires second { length second.items < 2 ^ 20 }
     requires third { length third.items < 2 ^ 20 }
-    ensures text { IfOk result (λ text. text.items ≡ frames_bytes (script_frames number first.items second.items third.items)) }
+    ensures text { IfOk result (λ text.
+        text.items ≡ frames_bytes (script_frames number first.items second.items third.items)) }
     ensures each { OnOk result (All (IsFrame request_table) (script_frames number first.items second.items third.items)) }
 {
     let mut script = Written::new(alloc);

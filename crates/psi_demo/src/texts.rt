@@ -16,7 +16,8 @@ pub fn summary_text(
     replies: &[Reply],
     stable: &[u32],
 ) -> Result<String, AllocError>
-    ensures { IfOk result (λ text. string_bytes text ≡ summary_text number (tally_of replies.now) stable.now) }
+    ensures { IfOk result (λ text.
+        string_bytes text ≡ summary_text number (tally_of replies.now) stable.now) }
 {
     let mut text = String::new(alloc);
     push_number(&mut text, "demo", number)?;
@@ -31,7 +32,8 @@ pub fn summary_text(
 // Appends a line with a word and a number in decimal.
 #[tactic(auto, unfolding(crate::specs::Texts::number_line))]
 fn push_number(text: &mut String, name: &str, number: u64) -> Result<(), AllocError>
-    ensures { OnOk result (string_bytes text.new ≡ string_bytes text.old ++ number_line name.now number) }
+    ensures { OnOk result (string_bytes text.new ≡ string_bytes text.old
+        ++ number_line name.now number) }
 {
     writeln!(text, "{name} {number}")
 }
@@ -39,7 +41,8 @@ fn push_number(text: &mut String, name: &str, number: u64) -> Result<(), AllocEr
 // Appends the line `stable`.
 #[tactic(auto, unfolding(crate::specs::Texts::stable_line))]
 fn push_stable(text: &mut String, stable: &[u32]) -> Result<(), AllocError>
-    ensures { OnOk result (string_bytes text.new ≡ string_bytes text.old ++ stable_line stable.now) }
+    ensures { OnOk result (string_bytes text.new ≡ string_bytes text.old
+        ++ stable_line stable.now) }
 {
     text.push_str("stable")?;
     for count in stable {

@@ -67,7 +67,8 @@ impl Written {
 
     /// Appends the frame that ends a round.
     pub(crate) fn go(&mut self, alloc: Global) -> Result<(), AllocError>
-        ensures text { OnOk result (self.new.text.items ≡ self.old.text.items ++ frame_bytes go_frame) }
+        ensures text { OnOk result (self.new.text.items ≡ self.old.text.items
+            ++ frame_bytes go_frame) }
         ensures requests { OnOk result (self.new.requests ≡ self.old.requests) }
     {
         let frame = Frame {
