@@ -78,8 +78,8 @@ entries-taken p start given history rounds sents each_given taken served k d lt 
     let all : before (length rounds) es ≡ all_places es = places-every (λ round. nat_lt round (length rounds)) es (below_all (length rounds) es (rounds-below rounds sents)) in
     let size : k < length given + length (before (length rounds) es) = omega (arith, of.no_others, ap length all, lt) in
     let is_taken : IsEntryTaken p history k =
-        elim (cases_lt k (length given)) [
-          | inl early ↦ given-taken p given history of.begins each_given k early
-          | inr late ↦ first-rounds (IsEntryTaken p history) (length given) es _ each (length rounds) (length rounds) served.served.placed.places (omega arith) k late size
-        ] in
+    elim (cases_lt k (length given)) [
+      | inl early ↦ given-taken p given history of.begins each_given k early
+      | inr late ↦ first-rounds (IsEntryTaken p history) (length given) es _ each (length rounds) (length rounds) served.served.placed.places (omega arith) k late size
+    ] in
     is_taken (get_or history k d) (slice_get-get_or history k d lt)

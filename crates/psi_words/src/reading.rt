@@ -38,7 +38,7 @@ fn named(alloc: Global, lead: &Lead, word: &str, behind: &[String]) -> Result<Co
     ensures fault { IfErr result (λ fault. (judged_named (shown lead.now) word.now
         (map string_bytes behind.now) ≡ Err fault)
         ⊎ ((fault ≡ NoMemory) × KeepsName (judged_named (shown lead.now) word.now
-            (map string_bytes behind.now)))) }
+        (map string_bytes behind.now)))) }
 {
     match word {
         "serve" => serve(lead, behind),
@@ -171,7 +171,7 @@ fn open(alloc: Global, lead: &Lead, behind: &[String]) -> Result<Command, WordFa
     ensures fault { IfErr result (λ fault. (judged_behind open_row (shown lead.now)
         (map string_bytes behind.now) ≡ Err fault)
         ⊎ ((fault ≡ NoMemory) × KeepsName (judged_behind open_row (shown lead.now)
-            (map string_bytes behind.now)))) }
+        (map string_bytes behind.now)))) }
 {
     let [rows, capacity, units, seed, file] = behind else {
         return Err(WordFault::Count { want: 5 });
