@@ -73,7 +73,8 @@ fn write_script(
     requires third { length third.items < 2 ^ 20 }
     ensures text { IfOk result (λ text.
         text.items ≡ frames_bytes (script_frames number first.items second.items third.items)) }
-    ensures each { OnOk result (All (IsFrame request_table) (script_frames number first.items second.items third.items)) }
+    ensures each { OnOk result (All (IsFrame request_table)
+        (script_frames number first.items second.items third.items)) }
 {
     let mut script = Written::new(alloc);
     script.puts(alloc, number, 0, 300)?;
@@ -96,7 +97,8 @@ fn write_second_round(
     requires few { script.old.requests < 1000 }
     requires first { length first.items < 2 ^ 20 }
     requires second { length second.items < 2 ^ 20 }
-    ensures { OnOk result (Writes script.old script.new (second_round number first.items second.items)) }
+    ensures { OnOk result (Writes script.old script.new
+        (second_round number first.items second.items)) }
 {
     script.ask(alloc, FIRST_SESSION, first)?;
     script.puts(alloc, number, 300, 100)?;

@@ -52,7 +52,8 @@ fn open_next<R: Threads + Sync>(
 ) -> Result<(), SumFault>
     requires tags { tags.now ≡ asked_tags number }
     requires few { length stable.old.items < opened_answers }
-    ensures opened { OnOk result (OpensNext number (body_of reply.now) stable.old.items stable.new.items) }
+    ensures opened { OnOk result (OpensNext number (body_of reply.now) stable.old.items
+        stable.new.items) }
     ensures fault { IfErr result (IsNextFault number (body_of reply.now)) }
 {
     match reply {

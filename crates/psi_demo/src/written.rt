@@ -51,7 +51,8 @@ impl Written {
         requires kind { kind ≤ 4 }
         requires small { length body.items < 2 ^ 20 }
         requires few { self.old.requests < 2 ^ 20 }
-        ensures { OnOk result (Writes self.old self.new (record { kind = kind; session = session; body = body.items } ∷ [])) }
+        ensures { OnOk result (Writes self.old self.new
+            (record { kind = kind; session = session; body = body.items } ∷ [])) }
     {
         let frame = Frame {
             kind,
