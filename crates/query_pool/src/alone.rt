@@ -31,6 +31,7 @@ use std::thread::Threads;
 /// Serves a round by one lane: the book takes the requests in their order, and each is answered from the set as it then
 /// stands. The replies are those of the one-thread sender, in the requests' order. A Repack packs the row as it stands, so no
 /// reply is `Moved`. The book keeps its parameters and its start, and its journal has the round's entries behind the old ones.
+/// The journal's room for the round is taken before the first request.
 ///
 /// The parameters are passed ones, and the book's own. There are at most 4096 requests, of which at most 32 are Asks. A Put's
 /// label has `10·units` bytes, an Ask's query has `rows·capacity` ciphertexts, a Repack's row is below `rows`, and a Bad's
@@ -50,6 +51,32 @@ pub fn round_alone<R: Threads + Sync>(
     requires same { book.parameters ≡ parameters_of params.now }
     requires few { length requests.items ≤ 4096 }
     requires asks { count_asks requests.items ≤ 32 }
+    requires fit { All (IsFit (parameters_of params.now)) requests.items }
+    ensures one_each { IfOk result (λ round. length round.replies.items ≡ length requests.items) }
+    ensures replies { IfOk result (λ round. addressed requests.items round.replies.items ≡ lane_replies (parameters_of params.now) (version_of book) requests.items) }
+    ensures entries { IfOk result (λ round. round.book.journal ≡ book.journal ++ lane_history (version_of book) requests.items) }
+    ensures version { IfOk result (λ round. version_of round.book ≡ fold lane_next (version_of book) requests.items) }
+    ensures parameters { IfOk result (λ round. round.book.parameters ≡ book.parameters) }
+    ensures start { IfOk result (λ round. round.book.start ≡ book.start) }
+    ensures unmoved { IfOk result (λ round. All IsNoMoved round.replies.items) }
+    ensures fits { IfOk result (λ round. All answer_fits round.replies.items) }
+{
+    let mut book = book;
+    book.reserve(alloc, requests.len() as u32)?;
+    answer_all(rt, alloc, params, book, requests)
+}
+
+// The same where the journal has room for its requests.
+fn answer_all<R: Threads + Sync>(
+    rt: &R,
+    alloc: Global,
+    params: &Params,
+    book: Book<Cache>,
+    requests: Vec<Request>,
+) -> Result<Round, AllocError>
+    requires passed { ArePassed (parameters_of params.now) }
+    requires same { book.parameters ≡ parameters_of params.now }
+    requires few { length requests.items ≤ 4096 }
     requires fit { All (IsFit (parameters_of params.now)) requests.items }
     ensures one_each { IfOk result (λ round. length round.replies.items ≡ length requests.items) }
     ensures replies { IfOk result (λ round. addressed requests.items round.replies.items ≡ lane_replies (parameters_of params.now) (version_of book) requests.items) }

@@ -10,7 +10,7 @@ use Rattle.sender_core.specs.Kept.{version_of}
 use Rattle.query_pool.specs.Caching.{IsScratch}
 use Rattle.psi_frames.specs.Requests.{IsFit}
 use Rattle.query_pool.proofs.Turns.{IsUnderWay, addressed-told, all-behind, all-entered, all-told, length-told, under_way-first, under_way-more, under_way-told}
-use Rattle.query_pool.proofs.alone.round_alone.Goals as goal
+use Rattle.query_pool.proofs.alone.answer_all.Goals as goal
 
 pub loop-request-init : goal.loop-request-init
 loop-request-init g c =
