@@ -57,9 +57,12 @@ pub fn serve<R: Threads + Wait + Sync, S: Source, K: Sink, G: Gate>(
     requires workers { (1 ≤ shape.workers) × (shape.workers ≤ 8) }
     requires builders { shape.builders ≤ 4 }
     ensures served { HasServed (empty_version (parameters_of params.now)) (nat_eq shape.workers 1)
-        (ends (S.told source.old) (K.told sink.old)) (ends (S.told source.new) (K.told sink.new)) result }
-    ensures good { IfSome (S.told source.old).left (λ bytes. AreGoodFrames bytes → result.status ≡ 4 → ⊥) }
-    ensures bad { IfSome (S.told source.old).left (λ bytes. AreBadFrames bytes → result.status ≡ 0 → ⊥) }
+        (ends (S.told source.old) (K.told sink.old)) (ends (S.told source.new) (K.told sink.new))
+            result }
+    ensures good { IfSome (S.told source.old).left (λ bytes. AreGoodFrames bytes → result.status ≡ 4
+        → ⊥) }
+    ensures bad { IfSome (S.told source.old).left (λ bytes. AreBadFrames bytes → result.status ≡ 0
+        → ⊥) }
 {
     match Book::open(alloc, params) {
         Ok(book) => serve_book(rt, alloc, params, book, shape, source, sink, gate),
@@ -84,16 +87,21 @@ fn serve_book<R: Threads + Wait + Sync, S: Source, K: Sink, G: Gate>(
     requires workers { (1 ≤ shape.workers) × (shape.workers ≤ 8) }
     requires builders { shape.builders ≤ 4 }
     ensures served { HasServed (start_of book) (nat_eq shape.workers 1)
-        (ends (S.told source.old) (K.told sink.old)) (ends (S.told source.new) (K.told sink.new)) result }
-    ensures good { IfSome (S.told source.old).left (λ bytes. AreGoodFrames bytes → result.status ≡ 4 → ⊥) }
-    ensures bad { IfSome (S.told source.old).left (λ bytes. AreBadFrames bytes → result.status ≡ 0 → ⊥) }
+        (ends (S.told source.old) (K.told sink.old)) (ends (S.told source.new) (K.told sink.new))
+            result }
+    ensures good { IfSome (S.told source.old).left (λ bytes. AreGoodFrames bytes → result.status ≡ 4
+        → ⊥) }
+    ensures bad { IfSome (S.told source.old).left (λ bytes. AreBadFrames bytes → result.status ≡ 0
+        → ⊥) }
 {
     let round = |book: Book<Cache>, requests: Vec<Request>| -> Result<Round, AllocError>
         requires passed { ArePassed (parameters_of params.now) }
         requires workers { (1 ≤ shape.workers) × (shape.workers ≤ 8) }
         requires builders { shape.builders ≤ 4 }
         requires asked { IsAsked (parameters_of params.now) book requests.items }
-        ensures { IfOk result (λ round. HasAnsweredRound (parameters_of params.entry.now) (nat_eq shape.workers 1) book round.book requests.items round.replies.items) }
+        ensures { IfOk result (λ round.
+            HasAnsweredRound (parameters_of params.entry.now) (nat_eq shape.workers 1) book
+            round.book requests.items round.replies.items) }
     { run_round(rt, alloc, params, book, requests, shape, gate) };
     let set = OneSet::new(alloc, book, shape.workers == 1, round);
     serve_frames(alloc, params, set, source, sink)
@@ -112,9 +120,12 @@ pub fn serve_alone<R: Threads + Sync, S: Source, K: Sink>(
 ) -> Served
     requires passed { ArePassed (parameters_of params.now) }
     ensures served { HasServed (empty_version (parameters_of params.now)) true
-        (ends (S.told source.old) (K.told sink.old)) (ends (S.told source.new) (K.told sink.new)) result }
-    ensures good { IfSome (S.told source.old).left (λ bytes. AreGoodFrames bytes → result.status ≡ 4 → ⊥) }
-    ensures bad { IfSome (S.told source.old).left (λ bytes. AreBadFrames bytes → result.status ≡ 0 → ⊥) }
+        (ends (S.told source.old) (K.told sink.old)) (ends (S.told source.new) (K.told sink.new))
+            result }
+    ensures good { IfSome (S.told source.old).left (λ bytes. AreGoodFrames bytes → result.status ≡ 4
+        → ⊥) }
+    ensures bad { IfSome (S.told source.old).left (λ bytes. AreBadFrames bytes → result.status ≡ 0
+        → ⊥) }
 {
     match Book::open(alloc, params) {
         Ok(book) => serve_book_alone(rt, alloc, params, book, source, sink),
@@ -135,14 +146,19 @@ fn serve_book_alone<R: Threads + Sync, S: Source, K: Sink>(
     requires same { book.parameters ≡ parameters_of params.now }
     requires none_entered { book.journal ≡ [] }
     ensures served { HasServed (start_of book) true
-        (ends (S.told source.old) (K.told sink.old)) (ends (S.told source.new) (K.told sink.new)) result }
-    ensures good { IfSome (S.told source.old).left (λ bytes. AreGoodFrames bytes → result.status ≡ 4 → ⊥) }
-    ensures bad { IfSome (S.told source.old).left (λ bytes. AreBadFrames bytes → result.status ≡ 0 → ⊥) }
+        (ends (S.told source.old) (K.told sink.old)) (ends (S.told source.new) (K.told sink.new))
+            result }
+    ensures good { IfSome (S.told source.old).left (λ bytes. AreGoodFrames bytes → result.status ≡ 4
+        → ⊥) }
+    ensures bad { IfSome (S.told source.old).left (λ bytes. AreBadFrames bytes → result.status ≡ 0
+        → ⊥) }
 {
     let round = |book: Book<Cache>, requests: Vec<Request>| -> Result<Round, AllocError>
         requires passed { ArePassed (parameters_of params.now) }
         requires asked { IsAsked (parameters_of params.now) book requests.items }
-        ensures { IfOk result (λ round. HasAnsweredRound (parameters_of params.entry.now) true book round.book requests.items round.replies.items) }
+        ensures { IfOk result (λ round.
+            HasAnsweredRound (parameters_of params.entry.now) true book round.book requests.items
+            round.replies.items) }
     { answer_alone(rt, alloc, params, book, requests) };
     let set = OneSet::new(alloc, book, true, round);
     serve_frames(alloc, params, set, source, sink)
@@ -158,7 +174,9 @@ fn answer_alone<R: Threads + Sync>(
 ) -> Result<Round, AllocError>
     requires passed { ArePassed (parameters_of params.now) }
     requires asked { IsAsked (parameters_of params.now) book requests.items }
-    ensures { IfOk result (λ round. HasAnsweredRound (parameters_of params.now) true book round.book requests.items round.replies.items) }
+    ensures { IfOk result (λ round.
+        HasAnsweredRound (parameters_of params.now) true book round.book requests.items
+        round.replies.items) }
 {
     round_alone(rt, alloc, params, book, requests)
 }

@@ -45,15 +45,20 @@ impl<F: Fn(Book<Cache>, Vec<Request>) -> Result<Round, AllocError> + Drop> OneSe
         params: &Params,
         requests: Vec<Request>,
     ) -> Result<Vec<Reply>, AllocError>
-        requires ready { (book : _) (requests : _) → IsAsked (parameters_of params.now) book requests.items
+        requires ready { (book : _) (requests : _)
+            → IsAsked (parameters_of params.now) book requests.items
             → F.pre self.old.round book requests }
-        requires answers { (book : _) (requests : _) (result : _) → F.post self.old.round book requests result
-            → IfOk result (λ round. HasAnsweredRound (parameters_of params.now) self.old.alone book round.book requests.items round.replies.items) }
+        requires answers { (book : _) (requests : _) (result : _)
+            → F.post self.old.round book requests result
+            → IfOk result (λ round. HasAnsweredRound (parameters_of params.now) self.old.alone book
+                round.book requests.items round.replies.items) }
         requires own { IsOwnBook (parameters_of params.now) self.old.book }
         requires few { length requests.items ≤ 4096 }
         requires asks { count_asks requests.items ≤ asks_of_round }
         requires fit { All (IsFit (parameters_of params.now)) requests.items }
-        ensures told { IfOk result (λ replies. HasToldRound (parameters_of params.now) self.old.alone self.old.book self.new.book requests.items replies.items) }
+        ensures told { IfOk result (λ replies.
+            HasToldRound (parameters_of params.now) self.old.alone self.old.book self.new.book
+            requests.items replies.items) }
         ensures round { self.new.round ≡ self.old.round }
         ensures alone { self.new.alone ≡ self.old.alone }
         ensures waiting { self.new.waiting ≡ self.old.waiting }

@@ -53,9 +53,13 @@ pub fn round_alone<R: Threads + Sync>(
     requires asks { count_asks requests.items ≤ 32 }
     requires fit { All (IsFit (parameters_of params.now)) requests.items }
     ensures one_each { IfOk result (λ round. length round.replies.items ≡ length requests.items) }
-    ensures replies { IfOk result (λ round. addressed requests.items round.replies.items ≡ lane_replies (parameters_of params.now) (version_of book) requests.items) }
-    ensures entries { IfOk result (λ round. round.book.journal ≡ book.journal ++ lane_history (version_of book) requests.items) }
-    ensures version { IfOk result (λ round. version_of round.book ≡ fold lane_next (version_of book) requests.items) }
+    ensures replies { IfOk result (λ round.
+        addressed requests.items round.replies.items ≡ lane_replies (parameters_of params.now)
+        (version_of book) requests.items) }
+    ensures entries { IfOk result (λ round.
+        round.book.journal ≡ book.journal ++ lane_history (version_of book) requests.items) }
+    ensures version { IfOk result (λ round.
+        version_of round.book ≡ fold lane_next (version_of book) requests.items) }
     ensures parameters { IfOk result (λ round. round.book.parameters ≡ book.parameters) }
     ensures start { IfOk result (λ round. round.book.start ≡ book.start) }
     ensures unmoved { IfOk result (λ round. All IsNoMoved round.replies.items) }
@@ -79,9 +83,13 @@ fn answer_all<R: Threads + Sync>(
     requires few { length requests.items ≤ 4096 }
     requires fit { All (IsFit (parameters_of params.now)) requests.items }
     ensures one_each { IfOk result (λ round. length round.replies.items ≡ length requests.items) }
-    ensures replies { IfOk result (λ round. addressed requests.items round.replies.items ≡ lane_replies (parameters_of params.now) (version_of book) requests.items) }
-    ensures entries { IfOk result (λ round. round.book.journal ≡ book.journal ++ lane_history (version_of book) requests.items) }
-    ensures version { IfOk result (λ round. version_of round.book ≡ fold lane_next (version_of book) requests.items) }
+    ensures replies { IfOk result (λ round.
+        addressed requests.items round.replies.items ≡ lane_replies (parameters_of params.now)
+        (version_of book) requests.items) }
+    ensures entries { IfOk result (λ round.
+        round.book.journal ≡ book.journal ++ lane_history (version_of book) requests.items) }
+    ensures version { IfOk result (λ round.
+        version_of round.book ≡ fold lane_next (version_of book) requests.items) }
     ensures parameters { IfOk result (λ round. round.book.parameters ≡ book.parameters) }
     ensures start { IfOk result (λ round. round.book.start ≡ book.start) }
     ensures unmoved { IfOk result (λ round. All IsNoMoved round.replies.items) }
@@ -109,7 +117,8 @@ fn reply_to<R: Threads + Sync>(
     requires same { book.old.parameters ≡ parameters_of params.now }
     requires fit { IsFit (parameters_of params.now) request }
     requires scratch { IsScratch (parameters_of params.now) scratch.old }
-    ensures answered { IfOk result (IsAnsweredAlone (parameters_of params.now) book.old book.new request) }
+    ensures answered { IfOk result (IsAnsweredAlone (parameters_of params.now) book.old book.new
+        request) }
     ensures unmoved { IfOk result IsNoMoved }
     ensures fits { IfOk result answer_fits }
     ensures scratch { scratch.new ≡ scratch.old }
@@ -126,7 +135,8 @@ fn reply_to<R: Threads + Sync>(
 // Puts a tag with its label.
 fn put(alloc: Global, book: &mut Book<Cache>, tag: Tag, label: Label) -> Result<Reply, AllocError>
     requires length { HasLabelLength book.old.parameters label }
-    ensures called { IfOk result (λ reply. (body : List ℕ) → IsCalled book.old book.new (Call.Put tag label) body reply) }
+    ensures called { IfOk result (λ reply. (body : List ℕ)
+        → IsCalled book.old book.new (Call.Put tag label) body reply) }
     ensures unmoved { IfOk result IsNoMoved }
     ensures fits { IfOk result answer_fits }
 {
@@ -139,7 +149,8 @@ fn put(alloc: Global, book: &mut Book<Cache>, tag: Tag, label: Label) -> Result<
 
 // Takes a tag out.
 fn drop_tag(alloc: Global, book: &mut Book<Cache>, tag: Tag) -> Result<Reply, AllocError>
-    ensures called { IfOk result (λ reply. (body : List ℕ) → IsCalled book.old book.new (Call.Drop tag) body reply) }
+    ensures called { IfOk result (λ reply. (body : List ℕ)
+        → IsCalled book.old book.new (Call.Drop tag) body reply) }
     ensures unmoved { IfOk result IsNoMoved }
     ensures fits { IfOk result answer_fits }
 {
@@ -163,7 +174,8 @@ fn ask<R: Threads + Sync>(
     requires same { book.old.parameters ≡ parameters_of params.now }
     requires powers { length query.items ≡ ciphertexts_of (parameters_of params.now) }
     requires scratch { IsScratch (parameters_of params.now) scratch.old }
-    ensures called { IfOk result (IsCalled book.old book.new Call.Ask (reply_body (parameters_of params.now) (version_of book.old).rows query.items)) }
+    ensures called { IfOk result (IsCalled book.old book.new Call.Ask
+        (reply_body (parameters_of params.now) (version_of book.old).rows query.items)) }
     ensures unmoved { IfOk result IsNoMoved }
     ensures fits { IfOk result answer_fits }
     ensures scratch { scratch.new ≡ scratch.old }
@@ -188,7 +200,8 @@ fn repack(
     requires passed { ArePassed (parameters_of params.now) }
     requires same { book.old.parameters ≡ parameters_of params.now }
     requires row { row < params.now.rows }
-    ensures called { IfOk result (λ reply. (body : List ℕ) → IsCalled book.old book.new (Call.Repack row (length book.old.journal)) body reply) }
+    ensures called { IfOk result (λ reply. (body : List ℕ)
+        → IsCalled book.old book.new (Call.Repack row (length book.old.journal)) body reply) }
     ensures unmoved { IfOk result IsNoMoved }
     ensures fits { IfOk result answer_fits }
 {

@@ -69,7 +69,8 @@ pub(crate) fn of_repack(answer: RepackAnswer, place: u64, from: u64) -> Reply
     ensures answer { answer_of result ≡ Some (answer_of_repack answer) }
     ensures from { from_of result ≡ Some from }
     ensures body { body_of result ≡ None }
-    ensures alone { from ≡ place → (body : List ℕ) → result ≡ reply_telling (answer_of_repack answer) place body }
+    ensures alone { from ≡ place → (body : List ℕ)
+        → result ≡ reply_telling (answer_of_repack answer) place body }
     ensures fits { answer_fits result }
 {
     match answer {

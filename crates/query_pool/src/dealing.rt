@@ -29,8 +29,10 @@ pub fn deal(alloc: Global, requests: Vec<Request>, workers: u8) -> Result<Dealt,
     requires some { 1 ≤ workers }
     requires few { length requests.items ≤ 4096 }
     ensures number { IfOk result (λ dealt. length dealt.lanes.items ≡ workers) }
-    ensures order { IfOk result (λ dealt. dealt.order.items ≡ map (lane_of workers) requests.items) }
-    ensures lanes { IfOk result (λ dealt. (l : ℕ) → list_at (asked_lists dealt.lanes.items) l ≡ lane_requests workers requests.items l) }
+    ensures order { IfOk result (λ dealt.
+        dealt.order.items ≡ map (lane_of workers) requests.items) }
+    ensures lanes { IfOk result (λ dealt. (l : ℕ)
+        → list_at (asked_lists dealt.lanes.items) l ≡ lane_requests workers requests.items l) }
 {
     let mut lanes = no_lists(alloc, workers)?;
     let mut order = Vec::with_capacity(alloc, requests.len())?;
@@ -81,7 +83,9 @@ fn session(request: &Request) -> u16
 fn add(lanes: &mut Vec<Vec<Numbered>>, lane: u8, numbered: Numbered) -> Result<(), AllocError>
     requires within { lane < length lanes.old.items }
     ensures number { IfOk result (λ _. length lanes.new.items ≡ length lanes.old.items) }
-    ensures added { IfOk result (λ _. (l : ℕ) → list_at (asked_lists lanes.new.items) l ≡ list_at (asked_lists lanes.old.items) l ++ picked l (lane ∷ []) (numbered.request ∷ [])) }
+    ensures added { IfOk result (λ _. (l : ℕ)
+        → list_at (asked_lists lanes.new.items) l ≡ list_at (asked_lists lanes.old.items)
+        l ++ picked l (lane ∷ []) (numbered.request ∷ [])) }
 {
     lanes[usize::from(lane)].push(numbered)?;
     Ok(())
@@ -99,9 +103,11 @@ pub fn merge(
     order: Vec<u8>,
     replies: Vec<Vec<Reply>>,
 ) -> Result<Vec<Reply>, AllocError>
-    requires counts { (l : ℕ) → length (list_at (listed replies.items) l) ≡ count_by (λ k. nat_eq k l) order.items }
+    requires counts { (l : ℕ) → length (list_at (listed replies.items) l) ≡ count_by
+        (λ k. nat_eq k l) order.items }
     ensures number { IfOk result (λ merged. length merged.items ≡ length order.items) }
-    ensures merged { IfOk result (λ merged. (l : ℕ) → list_at (listed replies.items) l ≡ picked l order.items merged.items) }
+    ensures merged { IfOk result (λ merged. (l : ℕ)
+        → list_at (listed replies.items) l ≡ picked l order.items merged.items) }
 {
     let mut order = order;
     let mut replies = replies;
@@ -116,7 +122,8 @@ pub fn merge(
 // The last reply of a lane, which has some.
 fn take_last(replies: &mut Vec<Vec<Reply>>, lane: u8) -> Reply
     requires some { 0 < length (list_at (listed replies.old.items) lane) }
-    ensures taken { (l : ℕ) → list_at (listed replies.old.items) l ≡ list_at (listed replies.new.items) l ++ picked l (lane ∷ []) (result ∷ []) }
+    ensures taken { (l : ℕ) → list_at (listed replies.old.items) l ≡ list_at
+        (listed replies.new.items) l ++ picked l (lane ∷ []) (result ∷ []) }
 {
     replies[usize::from(lane)].pop().unwrap()
 }

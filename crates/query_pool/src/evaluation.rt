@@ -50,7 +50,8 @@ pub(crate) fn evaluate<R: Threads + Sync>(
     requires set { AreRowsOfSet (parameters_of params.now) snapshot.now.rows }
     requires powers { length query.items ≡ ciphertexts_of (parameters_of params.now) }
     requires scratch { IsScratch (parameters_of params.now) scratch.old }
-    ensures body { IfOk result (λ body. body ≡ reply_body (parameters_of params.now) (rows_of snapshot.now.rows) query.items) }
+    ensures body { IfOk result (λ body.
+        body ≡ reply_body (parameters_of params.now) (rows_of snapshot.now.rows) query.items) }
     ensures short { IfOk result (λ body. length body ≤ longest_body) }
     ensures scratch { scratch.new ≡ scratch.old }
 {
@@ -90,7 +91,9 @@ fn evaluate_rows<R: Threads + Sync>(
     requires loaded { IsLoaded query.now }
     requires set { AreRowsOfSet (parameters_of query.now.params) snapshot.now.rows }
     requires scratch { IsScratch (parameters_of query.now.params) scratch.old }
-    ensures evaluated { IfOk result (λ cts. cts.items ≡ evaluated_rows (parameters_of query.now.params) (rows_of snapshot.now.rows) query.now.powers.query) }
+    ensures evaluated { IfOk result
+        (λ cts. cts.items ≡ evaluated_rows (parameters_of query.now.params)
+        (rows_of snapshot.now.rows) query.now.powers.query) }
     ensures scratch { scratch.new ≡ scratch.old }
 {
     let mut cts = Vec::new(alloc);
@@ -122,7 +125,9 @@ fn evaluate_row<R: Threads + Sync>(
     requires row { row < query.now.params.rows }
     requires ready { AreReady (parameters_of query.now.params) (seen_row cached_bins sights.now) }
     requires scratch { IsScratch (parameters_of query.now.params) scratch.old }
-    ensures evaluated { OnOk result (cts.new.items ≡ cts.old.items ++ evaluated_row (parameters_of query.now.params) query.now.powers.query row (row_of (seen_row cached_bins sights.now))) }
+    ensures evaluated { OnOk result
+        (cts.new.items ≡ cts.old.items ++ evaluated_row (parameters_of query.now.params)
+        query.now.powers.query row (row_of (seen_row cached_bins sights.now))) }
     ensures scratch { scratch.new ≡ scratch.old }
 {
     for sight in sights {
@@ -145,7 +150,9 @@ fn evaluate_bundle<R: Threads + Sync>(
     requires row { row < query.now.params.rows }
     requires ready { IsReady (parameters_of query.now.params) (seen_of cached_bins sight.now) }
     requires scratch { IsScratch (parameters_of query.now.params) scratch.old }
-    ensures evaluated { OnOk result (cts.new.items ≡ cts.old.items ++ evaluated_bundle (parameters_of query.now.params) query.now.powers.query row (seen_of cached_bins sight.now).bins) }
+    ensures evaluated { OnOk result
+        (cts.new.items ≡ cts.old.items ++ evaluated_bundle (parameters_of query.now.params)
+        query.now.powers.query row (seen_of cached_bins sight.now).bins) }
     ensures scratch { scratch.new ≡ scratch.old }
 {
     let mut out = blank(alloc, 1 + usize::from(query.params.units))?;
@@ -179,7 +186,9 @@ fn write_bundle<R: Threads + Sync>(
     requires ready { IsReady (parameters_of query.now.params) (seen_of cached_bins sight.now) }
     requires scratch { IsScratch (parameters_of query.now.params) scratch.old }
     requires places { length out.old ≡ planes_of_bundle (parameters_of query.now.params) }
-    ensures evaluated { OnOk result (out.new ≡ evaluated_bundle (parameters_of query.now.params) query.now.powers.query row (seen_of cached_bins sight.now).bins) }
+    ensures evaluated { OnOk result
+        (out.new ≡ evaluated_bundle (parameters_of query.now.params) query.now.powers.query row
+        (seen_of cached_bins sight.now).bins) }
     ensures scratch { scratch.new ≡ scratch.old }
 {
     match sight {
@@ -206,7 +215,9 @@ fn write_bare<R: Threads + Sync>(
     requires cacheable { IsCacheable (parameters_of query.now.params) (arc_value bundle.now) }
     requires scratch { IsScratch (parameters_of query.now.params) scratch.old }
     requires places { length out.old ≡ planes_of_bundle (parameters_of query.now.params) }
-    ensures evaluated { OnOk result (out.new ≡ evaluated_bundle (parameters_of query.now.params) query.now.powers.query row (arc_value bundle.now)) }
+    ensures evaluated { OnOk result
+        (out.new ≡ evaluated_bundle (parameters_of query.now.params) query.now.powers.query row
+        (arc_value bundle.now)) }
     ensures scratch { scratch.new ≡ scratch.old }
 {
     let bundle = bundle.clone()?;

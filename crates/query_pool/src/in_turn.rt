@@ -42,7 +42,8 @@ pub(crate) fn put<R: Threads + Wait + Sync, G: Gate>(
     gate: &G,
 ) -> Result<Reply, AllocError>
     requires here { seat.old.turnstile ≡ sender.now }
-    requires length { (z : Origin) → seat.old.knows.base ≡ Some z → HasLabelLength z.parameters label }
+    requires length { (z : Origin) → seat.old.knows.base ≡ Some z
+        → HasLabelLength z.parameters label }
     ensures here { seat.new.turnstile ≡ seat.old.turnstile }
     ensures went { HasGoneOn seat.old.knows seat.new.knows }
     ensures told { IfOk result (Tells seat.old.knows seat.new.knows (Call.Put tag label)) }
@@ -114,13 +115,15 @@ pub(crate) fn ask<R: Threads + Wait + Sync, G: Gate>(
 ) -> Result<Reply, AllocError>
     requires passed { ArePassed (parameters_of params.now) }
     requires here { seat.old.turnstile ≡ sender.now }
-    requires under { (z : Origin) → seat.old.knows.base ≡ Some z → z.parameters ≡ parameters_of params.now }
+    requires under { (z : Origin) → seat.old.knows.base ≡ Some z
+        → z.parameters ≡ parameters_of params.now }
     requires powers { length query.items ≡ ciphertexts_of (parameters_of params.now) }
     requires scratch { IsScratch (parameters_of params.now) scratch.old }
     ensures here { seat.new.turnstile ≡ seat.old.turnstile }
     ensures went { HasGoneOn seat.old.knows seat.new.knows }
     ensures told { IfOk result (Tells seat.old.knows seat.new.knows Call.Ask) }
-    ensures evaluated { (z : Origin) → seat.old.knows.base ≡ Some z → IfOk result (IsBodyAt z seat.new.knows.seen query.items) }
+    ensures evaluated { (z : Origin) → seat.old.knows.base ≡ Some z
+        → IfOk result (IsBodyAt z seat.new.knows.seen query.items) }
     ensures from { IfOk result (λ reply. from_of reply ≡ None) }
     ensures fits { IfOk result answer_fits }
     ensures scratch { scratch.new ≡ scratch.old }
@@ -158,11 +161,13 @@ pub(crate) fn repack<R: Threads + Wait + Sync, G: Gate>(
 ) -> Result<Reply, AllocError>
     requires passed { ArePassed (parameters_of params.now) }
     requires here { seat.old.turnstile ≡ sender.now }
-    requires under { (z : Origin) → seat.old.knows.base ≡ Some z → z.parameters ≡ parameters_of params.now }
+    requires under { (z : Origin) → seat.old.knows.base ≡ Some z
+        → z.parameters ≡ parameters_of params.now }
     requires row { row < params.now.rows }
     ensures here { seat.new.turnstile ≡ seat.old.turnstile }
     ensures went { HasGoneOn seat.old.knows seat.new.knows }
-    ensures told { IfOk result (λ reply. Tells seat.old.knows seat.new.knows (Call.Repack row (from_or_zero reply)) reply) }
+    ensures told { IfOk result (λ reply.
+        Tells seat.old.knows seat.new.knows (Call.Repack row (from_or_zero reply)) reply) }
     ensures from { IfOk result (IsToldFrom seat.old.knows) }
     ensures tells_from { IfOk result (λ reply. IsSome (place_of reply) → IsSome (from_of reply)) }
     ensures body { IfOk result (λ reply. body_of reply ≡ None) }

@@ -78,13 +78,15 @@ fn run_each<R: Threads + Wait + Sync, G: Gate>(
     requires passed { ArePassed (parameters_of params.now) }
     requires ready { All (IsReadyJob (parameters_of params.now) sender.now) jobs.items }
     ensures count { IfOk result (λ results. length results.items ≡ length jobs.items) }
-    ensures ran { IfOk result (λ results. (i : ℕ) (j : Job) (r : _) → i < length jobs.items → IfOk (slice_index_or results.items i r) (HasRun (slice_index_or jobs.items i j))) }
+    ensures ran { IfOk result (λ results. (i : ℕ) (j : Job) (r : _) → i < length jobs.items
+        → IfOk (slice_index_or results.items i r) (HasRun (slice_index_or jobs.items i j))) }
 {
     thread::map_vec(
         rt,
         jobs,
         &|job: Job| -> Result<Done, AllocError>
-            requires { IsSync R.row × ArePassed (parameters_of params.now) × IsReadyJob (parameters_of params.now) sender.now job }
+            requires { IsSync R.row × ArePassed (parameters_of params.now)
+                × IsReadyJob (parameters_of params.now) sender.now job }
             ensures { IfOk result (HasRun job) }
         { run_job(rt, alloc, params, sender, job, gate) },
     )
@@ -146,7 +148,8 @@ fn build<R: Threads + Wait + Sync, G: Gate>(
 ) -> Done
     requires passed { ArePassed (parameters_of params.now) }
     requires here { seat.turnstile ≡ sender.now }
-    requires under { (z : Origin) → seat.knows.base ≡ Some z → z.parameters ≡ parameters_of params.now }
+    requires under { (z : Origin) → seat.knows.base ≡ Some z
+        → z.parameters ≡ parameters_of params.now }
     requires shelf { All (IsBundleBlock (parameters_of params.now)) shelf }
     requires budget { budget ≤ 1024 }
     ensures here { result.seat.turnstile ≡ seat.turnstile }

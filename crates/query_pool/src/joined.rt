@@ -61,11 +61,16 @@ pub fn run_round<R: Threads + Wait + Sync, G: Gate>(
     requires workers { (1 ≤ shape.workers) × (shape.workers ≤ 8) }
     requires builders { shape.builders ≤ 4 }
     ensures one_each { IfOk result (λ round. length round.replies.items ≡ length requests.items) }
-    ensures served { IfOk result (λ round. IsServed (parameters_of params.now) (start_of book) book.journal round.book.journal (requests.items ∷ []) (addressed requests.items round.replies.items)) }
-    ensures one_lane { shape.workers ≡ 1 → IfOk result (λ round. IsOneLane (exchanges (requests.items ∷ []) (addressed requests.items round.replies.items))) }
+    ensures served { IfOk result (λ round.
+        IsServed (parameters_of params.now) (start_of book) book.journal round.book.journal
+        (requests.items ∷ []) (addressed requests.items round.replies.items)) }
+    ensures one_lane { shape.workers ≡ 1
+        → IfOk result (λ round. IsOneLane
+        (exchanges (requests.items ∷ []) (addressed requests.items round.replies.items))) }
     ensures parameters { IfOk result (λ round. round.book.parameters ≡ book.parameters) }
     ensures start { IfOk result (λ round. round.book.start ≡ book.start) }
-    ensures leads { IfOk result (λ round. replay (start_of book) round.book.journal ≡ version_of round.book) }
+    ensures leads { IfOk result (λ round.
+        replay (start_of book) round.book.journal ≡ version_of round.book) }
     ensures fits { IfOk result (λ round. All answer_fits round.replies.items) }
 {
     let entries = requests.len() as u32;
@@ -98,11 +103,18 @@ fn run_works<R: Threads + Wait + Sync, G: Gate>(
     requires ready { All (IsWork (parameters_of params.now)) works.items }
     requires few { length works.items ≤ 12 }
     requires entries { entries ≤ 4096 }
-    ensures joined { IfOk result (λ ran. (workers : ℕ) (es : List Exchange) → 1 ≤ workers → workers ≤ length works.items → ArePartsOf workers es (request_lists works.items) (listed ran.replies.items) → AreJoined (origin_of book) book.journal ran.book.journal workers es) }
-    ensures one_each { IfOk result (λ ran. (l : ℕ) → length (list_at (listed ran.replies.items) l) ≡ length (list_at (request_lists works.items) l)) }
-    ensures fits { IfOk result (λ ran. (l : ℕ) → All answer_fits (list_at (listed ran.replies.items) l)) }
+    ensures joined { IfOk result (λ ran. (workers : ℕ) (es : List Exchange) → 1 ≤ workers
+        → workers ≤ length works.items → ArePartsOf workers es (request_lists works.items)
+        (listed ran.replies.items) → AreJoined (origin_of book) book.journal ran.book.journal
+        workers es) }
+    ensures one_each { IfOk result (λ ran. (l : ℕ)
+        → length (list_at (listed ran.replies.items) l) ≡ length
+        (list_at (request_lists works.items) l)) }
+    ensures fits { IfOk result (λ ran. (l : ℕ)
+        → All answer_fits (list_at (listed ran.replies.items) l)) }
     ensures origin { IfOk result (λ ran. origin_of ran.book ≡ origin_of book) }
-    ensures leads { IfOk result (λ ran. replay (start_of book) ran.book.journal ≡ version_of ran.book) }
+    ensures leads { IfOk result (λ ran.
+        replay (start_of book) ran.book.journal ≡ version_of ran.book) }
 {
     let Begun { sender, seat } = begin(rt, alloc, book, entries)?;
     let mut seat = seat;

@@ -64,12 +64,16 @@ pub(crate) fn run_lane<R: Threads + Wait + Sync, G: Gate>(
 ) -> Result<Done, AllocError>
     requires passed { ArePassed (parameters_of params.now) }
     requires here { lane.seat.turnstile ≡ sender.now }
-    requires under { (z : Origin) → lane.seat.knows.base ≡ Some z → z.parameters ≡ parameters_of params.now }
+    requires under { (z : Origin) → lane.seat.knows.base ≡ Some z
+        → z.parameters ≡ parameters_of params.now }
     requires scratch { IsScratch (parameters_of params.now) lane.scratch }
     requires fit { All (IsFit (parameters_of params.now)) (asked lane.requests.items) }
     ensures here { IfOk result (λ done. done.seat.turnstile ≡ lane.seat.turnstile) }
-    ensures ran { (z : Origin) → IsSeated z lane.seat.knows → IfOk result (λ done. IsLane z lane.seat.knows done.seat.knows (lane_exchanges (asked lane.requests.items) done.replies.items)) }
-    ensures one_each { IfOk result (λ done. length done.replies.items ≡ length lane.requests.items) }
+    ensures ran { (z : Origin) → IsSeated z lane.seat.knows
+        → IfOk result (λ done. IsLane z lane.seat.knows done.seat.knows
+        (lane_exchanges (asked lane.requests.items) done.replies.items)) }
+    ensures one_each { IfOk result (λ done.
+        length done.replies.items ≡ length lane.requests.items) }
     ensures fits { IfOk result (λ done. All answer_fits done.replies.items) }
 {
     let Lane {
@@ -106,12 +110,15 @@ fn answer<R: Threads + Wait + Sync, G: Gate>(
 ) -> Result<Reply, AllocError>
     requires passed { ArePassed (parameters_of params.now) }
     requires here { seat.old.turnstile ≡ sender.now }
-    requires under { (z : Origin) → seat.old.knows.base ≡ Some z → z.parameters ≡ parameters_of params.now }
+    requires under { (z : Origin) → seat.old.knows.base ≡ Some z
+        → z.parameters ≡ parameters_of params.now }
     requires scratch { IsScratch (parameters_of params.now) scratch.old }
     requires fit { IsFit (parameters_of params.now) numbered.request }
     ensures here { seat.new.turnstile ≡ seat.old.turnstile }
     ensures base { seat.new.knows.base ≡ seat.old.knows.base }
-    ensures one { (z : Origin) → IsSeated z seat.old.knows → IfOk result (λ reply. IsOne z seat.old.knows seat.new.knows (lane_exchange numbered.request reply)) }
+    ensures one { (z : Origin) → IsSeated z seat.old.knows
+        → IfOk result (λ reply. IsOne z seat.old.knows seat.new.knows
+        (lane_exchange numbered.request reply)) }
     ensures fits { IfOk result answer_fits }
     ensures scratch { scratch.new ≡ scratch.old }
 {

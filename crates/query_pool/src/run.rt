@@ -53,10 +53,13 @@ impl<A: Server> Run<A> {
     ) -> Result<(), Stop>
         requires passed { ArePassed (parameters_of params.now) }
         requires under { A.is_under self.old.server (parameters_of params.now) }
-        requires round { IsRoundCounted (A.rule (A.kind self.old.server)) (A.state self.old.server) self.old.replies }
-        ensures gone { OnOk result (HasGoneOn (A.rule (A.kind self.old.server)) (A.state self.old.server) (A.state self.new.server) as_they_are
+        requires round { IsRoundCounted (A.rule (A.kind self.old.server)) (A.state self.old.server)
+            self.old.replies }
+        ensures gone { OnOk result (HasGoneOn (A.rule (A.kind self.old.server))
+            (A.state self.old.server) (A.state self.new.server) as_they_are
             (progress_of self.old) (progress_of self.new) (K.told sink.old) (K.told sink.new)) }
-        ensures stops { IfErr result (RoundStops (A.rule (A.kind self.old.server)) (A.state self.old.server) as_they_are
+        ensures stops { IfErr result (RoundStops (A.rule (A.kind self.old.server))
+            (A.state self.old.server) as_they_are
             (progress_of self.old) (progress_of self.new) (K.told sink.old) (K.told sink.new)) }
         ensures under { OnOk result (A.is_under self.new.server (parameters_of params.now)) }
         ensures kind { OnOk result (A.kind self.new.server ≡ A.kind self.old.server) }
@@ -82,11 +85,16 @@ impl<A: Server> Run<A> {
     ) -> Result<(), Stop>
         requires passed { ArePassed (parameters_of params.now) }
         requires under { A.is_under self.old.server (parameters_of params.now) }
-        requires open_round { IsRoundOpen (A.rule (A.kind self.old.server)) (A.state self.old.server) self.old.replies frame }
-        ensures takes { OnOk result (Takes (A.rule (A.kind self.old.server)) (A.state self.old.server) (A.state self.new.server)
-            (progress_of self.old) (progress_of self.new) frame (K.told sink.old) (K.told sink.new)) }
-        ensures stops { IfErr result (TakeStops (A.rule (A.kind self.old.server)) (A.state self.old.server)
-            (progress_of self.old) (progress_of self.new) frame (K.told sink.old) (K.told sink.new)) }
+        requires open_round { IsRoundOpen (A.rule (A.kind self.old.server))
+            (A.state self.old.server) self.old.replies frame }
+        ensures takes { OnOk result (Takes (A.rule (A.kind self.old.server))
+            (A.state self.old.server) (A.state self.new.server)
+            (progress_of self.old) (progress_of self.new) frame (K.told sink.old)
+                (K.told sink.new)) }
+        ensures stops { IfErr result (TakeStops (A.rule (A.kind self.old.server))
+            (A.state self.old.server)
+            (progress_of self.old) (progress_of self.new) frame (K.told sink.old)
+                (K.told sink.new)) }
         ensures under { OnOk result (A.is_under self.new.server (parameters_of params.now)) }
         ensures kind { OnOk result (A.kind self.new.server ≡ A.kind self.old.server) }
     {
@@ -107,14 +115,19 @@ impl<A: Server> Run<A> {
     ) -> Result<(), Stop>
         requires passed { ArePassed (parameters_of params.now) }
         requires under { A.is_under self.old.server (parameters_of params.now) }
-        requires standing { IsStanding (A.rule (A.kind self.old.server)) (A.state self.old.server) feed.old
+        requires standing { IsStanding (A.rule (A.kind self.old.server)) (A.state self.old.server)
+            feed.old
             (progress_of self.old) (K.told sink.old) }
         ensures goes { OnOk result ((mark : Mark) (bytes : List ℕ)
-            → Stands (A.rule (A.kind self.old.server)) (A.state self.old.server) mark bytes feed.old (progress_of self.old) (K.told sink.old)
-            → Stands (A.rule (A.kind self.old.server)) (A.state self.new.server) mark bytes feed.new (progress_of self.new) (K.told sink.new)) }
+            → Stands (A.rule (A.kind self.old.server)) (A.state self.old.server) mark bytes feed.old
+                (progress_of self.old) (K.told sink.old)
+            → Stands (A.rule (A.kind self.old.server)) (A.state self.new.server) mark bytes feed.new
+                (progress_of self.new) (K.told sink.new)) }
         ensures stops { IfErr result (λ stop. (mark : Mark) (bytes : List ℕ)
-            → Stands (A.rule (A.kind self.old.server)) (A.state self.old.server) mark bytes feed.old (progress_of self.old) (K.told sink.old)
-            → StopsAt (A.rule (A.kind self.old.server)) mark bytes (progress_of self.new) (K.told sink.new) stop) }
+            → Stands (A.rule (A.kind self.old.server)) (A.state self.old.server) mark bytes feed.old
+                (progress_of self.old) (K.told sink.old)
+            → StopsAt (A.rule (A.kind self.old.server)) mark bytes (progress_of self.new)
+                (K.told sink.new) stop) }
         ensures taken { OnOk result (feed.new.ready ≡ []) }
         ensures fault { OnOk result (feed.new.fault ≡ feed.old.fault) }
         ensures under { OnOk result (A.is_under self.new.server (parameters_of params.now)) }
@@ -135,14 +148,20 @@ impl<A: Server> Run<A> {
     ) -> Result<(), Stop>
         requires passed { ArePassed (parameters_of params.now) }
         requires under { A.is_under self.old.server (parameters_of params.now) }
-        requires standing { (feed : Feeding) × IsStanding (A.rule (A.kind self.old.server)) (A.state self.old.server) feed
+        requires standing { (feed : Feeding)
+            × IsStanding (A.rule (A.kind self.old.server)) (A.state self.old.server) feed
             (progress_of self.old) (K.told sink.old) }
         ensures all { OnOk result ((mark : Mark) (bytes : List ℕ) (feed : Feeding) → feed.ready ≡ []
-            → Stands (A.rule (A.kind self.old.server)) (A.state self.old.server) mark bytes feed (progress_of self.old) (K.told sink.old)
-            → HasAnsweredAll (A.rule (A.kind self.old.server)) mark bytes feed (progress_of self.new) (K.told sink.new)) }
-        ensures stops { IfErr result (λ stop. (mark : Mark) (bytes : List ℕ) (feed : Feeding) → feed.ready ≡ []
-            → Stands (A.rule (A.kind self.old.server)) (A.state self.old.server) mark bytes feed (progress_of self.old) (K.told sink.old)
-            → LastStops (A.rule (A.kind self.old.server)) mark bytes feed (progress_of self.new) (K.told sink.new) stop) }
+            → Stands (A.rule (A.kind self.old.server)) (A.state self.old.server) mark bytes feed
+                (progress_of self.old) (K.told sink.old)
+            → HasAnsweredAll (A.rule (A.kind self.old.server)) mark bytes feed
+                (progress_of self.new) (K.told sink.new)) }
+        ensures stops { IfErr result (λ stop. (mark : Mark) (bytes : List ℕ) (feed : Feeding)
+            → feed.ready ≡ []
+            → Stands (A.rule (A.kind self.old.server)) (A.state self.old.server) mark bytes feed
+                (progress_of self.old) (K.told sink.old)
+            → LastStops (A.rule (A.kind self.old.server)) mark bytes feed (progress_of self.new)
+                (K.told sink.new) stop) }
     {
         if self.server.is_empty() {
             return Ok(());
@@ -163,19 +182,24 @@ impl<A: Server> Run<A> {
     ) -> Result<usize, Stop>
         requires passed { ArePassed (parameters_of params.now) }
         requires under { A.is_under self.old.server (parameters_of params.now) }
-        requires standing { IsStandingAt (A.rule (A.kind self.old.server)) (A.state self.old.server) room feed.old
+        requires standing { IsStandingAt (A.rule (A.kind self.old.server)) (A.state self.old.server)
+            room feed.old
             (progress_of self.old) (K.told sink.old) }
         ensures goes { OnOk result ((mark : Mark) (bytes : List ℕ)
-            → Stands (A.rule (A.kind self.old.server)) (A.state self.old.server) mark bytes feed.old (progress_of self.old) (K.told sink.old)
+            → Stands (A.rule (A.kind self.old.server)) (A.state self.old.server) mark bytes feed.old
+                (progress_of self.old) (K.told sink.old)
             → length bytes + room ≡ most_bytes
-            → Stands (A.rule (A.kind self.old.server)) (A.state self.new.server) mark (bytes ++ piece.now) feed.new (progress_of self.new) (K.told sink.new)) }
+            → Stands (A.rule (A.kind self.old.server)) (A.state self.new.server) mark
+                (bytes ++ piece.now) feed.new (progress_of self.new) (K.told sink.new)) }
         ensures left { IfOk result (λ left. length piece.now + left ≡ room) }
         ensures faultless { OnOk result (feed.new.fault ≡ None) }
         ensures taken { OnOk result (feed.new.ready ≡ []) }
         ensures stops { IfErr result (λ stop. (mark : Mark) (bytes : List ℕ)
-            → Stands (A.rule (A.kind self.old.server)) (A.state self.old.server) mark bytes feed.old (progress_of self.old) (K.told sink.old)
+            → Stands (A.rule (A.kind self.old.server)) (A.state self.old.server) mark bytes feed.old
+                (progress_of self.old) (K.told sink.old)
             → length bytes + room ≡ most_bytes
-            → PieceStops (A.rule (A.kind self.old.server)) mark bytes piece.now room feed.new (progress_of self.new) (K.told sink.new) stop) }
+            → PieceStops (A.rule (A.kind self.old.server)) mark bytes piece.now room feed.new
+                (progress_of self.new) (K.told sink.new) stop) }
         ensures under { OnOk result (A.is_under self.new.server (parameters_of params.now)) }
         ensures kind { OnOk result (A.kind self.new.server ≡ A.kind self.old.server) }
     {
@@ -200,7 +224,9 @@ impl<A: Server> Run<A> {
         requires under { A.is_under self.old.server (parameters_of params.now) }
         requires new { IsNew (progress_of self.old) }
         requires begins { IsBeginning (A.rule (A.kind self.old.server)) (A.state self.old.server) }
-        ensures { Leaves (A.rule (A.kind self.old.server)) (ends (S.told source.old) (K.told sink.old)) (ends (S.told source.new) (K.told sink.new))
+        ensures { Leaves (A.rule (A.kind self.old.server))
+            (ends (S.told source.old) (K.told sink.old))
+            (ends (S.told source.new) (K.told sink.new))
             (progress_of self.new) result }
     {
         let mut feed = Feed::open(alloc)?;
@@ -226,7 +252,8 @@ impl<A: Server> Run<A> {
 // Whether the input may end behind what was fed.
 fn end(feed: &Feed) -> Result<(), Stop>
     ensures ok { OnOk result (end_fault feed.now.fault feed.now.rest ≡ None) }
-    ensures err { IfErr result (λ stop. (stop ≡ BadInput) × IsSome (end_fault feed.now.fault feed.now.rest)) }
+    ensures err { IfErr result (λ stop. (stop ≡ BadInput)
+        × IsSome (end_fault feed.now.fault feed.now.rest)) }
 {
     match feed.finish() {
         Ok(()) => Ok(()),
@@ -236,7 +263,8 @@ fn end(feed: &Feed) -> Result<(), Stop>
 
 // Feeds the bytes of a piece, as many of them as are looked at. It answers whether these were all, and no fault was met.
 fn hear(alloc: Global, feed: &mut Feed, piece: &[u8], room: usize) -> Result<bool, AllocError>
-    ensures fed { OnOk result ((bytes : List ℕ) (taken : List Frame) → HasFed feed.old bytes taken → HasFed feed.new (bytes ++ take room piece.now) taken) }
+    ensures fed { OnOk result ((bytes : List ℕ) (taken : List Frame) → HasFed feed.old bytes taken
+        → HasFed feed.new (bytes ++ take room piece.now) taken) }
     ensures faultless { IfOk result (λ good. good ≡ true → feed.new.fault ≡ None) }
     ensures whole { IfOk result (λ good. good ≡ true → length piece.now ≤ room) }
     ensures bad { IfOk result (λ good. good ≡ false → IsBadPiece feed.new room piece.now) }

@@ -26,9 +26,11 @@ pub(crate) fn cut(
     requires here { seat.old.turnstile ≡ sender.now }
     requires share { doubled (length works.items) ≤ seat.old.knows.share }
     ensures here { seat.new.turnstile ≡ seat.old.turnstile }
-    ensures each_here { IfOk result (λ jobs. All (λ job. job.seat.turnstile ≡ sender.now) jobs.items) }
+    ensures each_here { IfOk result
+        (λ jobs. All (λ job. job.seat.turnstile ≡ sender.now) jobs.items) }
     ensures works { IfOk result (λ jobs. map (λ job. job.work) jobs.items ≡ works.items) }
-    ensures seats { IfOk result (λ jobs. AreCut seat.old.knows seat.new.knows (map (λ job. job.seat.knows) jobs.items)) }
+    ensures seats { IfOk result (λ jobs.
+        AreCut seat.old.knows seat.new.knows (map (λ job. job.seat.knows) jobs.items)) }
 {
     let mut jobs = Vec::with_capacity(alloc, works.len())?;
     for work in works {
@@ -54,8 +56,10 @@ pub(crate) fn meet(
     requires here { seat.old.turnstile ≡ sender.now }
     requires each_here { All (λ done. done.seat.turnstile ≡ sender.now) dones.items }
     ensures here { seat.new.turnstile ≡ seat.old.turnstile }
-    ensures seats { IfOk result (λ replies. AreMet seat.old.knows seat.new.knows (map (λ done. done.seat.knows) dones.items)) }
-    ensures replies { IfOk result (λ replies. replies.items ≡ map (λ done. done.replies) dones.items) }
+    ensures seats { IfOk result (λ replies.
+        AreMet seat.old.knows seat.new.knows (map (λ done. done.seat.knows) dones.items)) }
+    ensures replies { IfOk result (λ replies.
+        replies.items ≡ map (λ done. done.replies) dones.items) }
 {
     let mut replies = Vec::with_capacity(alloc, dones.len())?;
     for done in dones {

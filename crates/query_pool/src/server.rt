@@ -41,15 +41,18 @@ pub trait Server {
 
     /// Takes a frame behind those that wait.
     fn push(&mut self, frame: Frame) -> Result<(), AllocError>
-        ensures pushed { OnOk result ((rounds : List (List Frame)) (sents : List Sent) (waiting : List Frame)
-            → state self.old rounds sents waiting → state self.new rounds sents (waiting ++ frame ∷ [])) }
+        ensures pushed { OnOk result ((rounds : List (List Frame)) (sents : List Sent)
+            (waiting : List Frame)
+            → state self.old rounds sents waiting
+                → state self.new rounds sents (waiting ++ frame ∷ [])) }
         ensures under { OnOk result ((p : Parameters) → is_under self.old p → is_under self.new p) }
         ensures kind { OnOk result (kind self.new ≡ kind self.old) };
 
     /// Whether the last of the frames that wait ends their round.
     fn is_ended(&self) -> bool
         ensures { (rounds : List (List Frame)) (sents : List Sent) (waiting : List Frame)
-            → state self.now rounds sents waiting → (rule (kind self.now)).ends rounds waiting ≡ result };
+            → state self.now rounds sents waiting
+                → (rule (kind self.now)).ends rounds waiting ≡ result };
 
     /// Whether no frame waits.
     fn is_empty(&self) -> bool
@@ -61,7 +64,8 @@ pub trait Server {
         requires passed { ArePassed (parameters_of params.now) }
         requires under { is_under self.old (parameters_of params.now) }
         requires round { IsRoundReady (rule (kind self.old)) (state self.old) }
-        ensures answers { IfOk result (λ answered. AnswersFrames (rule (kind self.old)) (state self.old) (state self.new)
+        ensures answers { IfOk result (λ answered.
+            AnswersFrames (rule (kind self.old)) (state self.old) (state self.new)
             answered.text.items answered.replies) }
         ensures under { OnOk result (is_under self.new (parameters_of params.now)) }
         ensures kind { OnOk result (kind self.new ≡ kind self.old) };

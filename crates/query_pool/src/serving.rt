@@ -45,9 +45,12 @@ pub fn serve_frames<A: Server + Drop, S: Source, K: Sink>(
     requires under { A.is_under server (parameters_of params.now) }
     requires begins { IsBeginning (A.rule (A.kind server)) (A.state server) }
     ensures served { HasServedBy (A.rule (A.kind server))
-        (ends (S.told source.old) (K.told sink.old)) (ends (S.told source.new) (K.told sink.new)) result }
-    ensures good { IfSome (S.told source.old).left (λ bytes. AreGoodFrames bytes → result.status ≡ 4 → ⊥) }
-    ensures bad { IfSome (S.told source.old).left (λ bytes. AreBadFrames bytes → result.status ≡ 0 → ⊥) }
+        (ends (S.told source.old) (K.told sink.old)) (ends (S.told source.new) (K.told sink.new))
+            result }
+    ensures good { IfSome (S.told source.old).left (λ bytes. AreGoodFrames bytes → result.status ≡ 4
+        → ⊥) }
+    ensures bad { IfSome (S.told source.old).left (λ bytes. AreBadFrames bytes → result.status ≡ 0
+        → ⊥) }
 {
     let mut run = Run::new(server);
     let status = status_of(run.serve_all(alloc, params, source, sink));

@@ -31,7 +31,8 @@ pub(crate) fn works_of(
 ) -> Result<Vec<Work>, AllocError>
     requires passed { ArePassed (parameters_of params.now) }
     requires fit { All (All (IsFit (parameters_of params.now))) (asked_lists lanes.items) }
-    ensures lists { IfOk result (λ works. request_lists works.items ≡ asked_lists lanes.items ++ replicate builders []) }
+    ensures lists { IfOk result (λ works.
+        request_lists works.items ≡ asked_lists lanes.items ++ replicate builders []) }
     ensures ready { IfOk result (λ works. All (IsWork (parameters_of params.now)) works.items) }
 {
     let mut works = works_of_lanes(alloc, params, lanes)?;
