@@ -30,7 +30,8 @@ pub fn read_ciphertexts(
     requires { length bytes.now ≡ ciphertext_size * count }
     ensures read { IfOk result (λ cts. cts.items ≡ ciphertexts_in bytes.now count) }
     ensures whole { OnOk result (AreCiphertexts bytes.now count) }
-    ensures fault { IfErr result (λ fault. (fault ≡ NoMemory) ⊎ (option_map Residue (wrong_residue bytes.now (4 * ring_degree * count)) ≡ Some fault)) }
+    ensures fault { IfErr result (λ fault. (fault ≡ NoMemory)
+        ⊎ (option_map Residue (wrong_residue bytes.now (4 * ring_degree * count)) ≡ Some fault)) }
 {
     let mut cts = Vec::with_capacity(alloc, count)?;
     for c in 0..count {
@@ -46,7 +47,8 @@ pub fn read_ciphertext(alloc: Global, bytes: &[u8], c: usize) -> Result<Cipherte
     requires { ciphertext_size * (c + 1) ≤ length bytes.now }
     ensures read { IfOk result (λ ct. ct ≡ ciphertext_in bytes.now c) }
     ensures below { OnOk result (AreBelow bytes.now (4 * ring_degree * c) (4 * ring_degree * (c + 1))) }
-    ensures fault { IfErr result (λ fault. (fault ≡ NoMemory) ⊎ IsResidueFault bytes.now (4 * ring_degree * c) (4 * ring_degree * (c + 1)) fault) }
+    ensures fault { IfErr result (λ fault. (fault ≡ NoMemory)
+        ⊎ IsResidueFault bytes.now (4 * ring_degree * c) (4 * ring_degree * (c + 1)) fault) }
 {
     let c0_first = read_list(alloc, bytes, 4 * c)?;
     let c0_second = read_list(alloc, bytes, 4 * c + 1)?;
@@ -60,7 +62,8 @@ fn read_list(alloc: Global, bytes: &[u8], k: usize) -> Result<Vec<u64>, CodecFau
     requires { 5 * (ring_degree * (k + 1)) ≤ length bytes.now }
     ensures read { IfOk result (λ list. list.items ≡ list_in bytes.now k) }
     ensures below { OnOk result (AreBelow bytes.now (ring_degree * k) (ring_degree * (k + 1))) }
-    ensures fault { IfErr result (λ fault. (fault ≡ NoMemory) ⊎ IsResidueFault bytes.now (ring_degree * k) (ring_degree * (k + 1)) fault) }
+    ensures fault { IfErr result (λ fault. (fault ≡ NoMemory)
+        ⊎ IsResidueFault bytes.now (ring_degree * k) (ring_degree * (k + 1)) fault) }
 {
     let mut list = vec![in alloc; 0; N]?;
     write_list(bytes, k, &mut list)?;

@@ -12,7 +12,8 @@ pub const HEADER: usize = 8;
 /// Whether a body begins with the parameters.
 pub fn has_header(params: &Params, body: &[u8]) -> bool
     requires { 8 ≤ length body.now }
-    ensures { result ≡ pointwise nat_eq (take 8 body.now) (parameter_bytes (parameters_of params.now)) }
+    ensures { result
+        ≡ pointwise nat_eq (take 8 body.now) (parameter_bytes (parameters_of params.now)) }
 {
     &body[..HEADER] == params.to_bytes().as_slice()
 }

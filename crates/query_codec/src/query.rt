@@ -26,12 +26,16 @@ pub fn read_query(
     body: &[u8],
 ) -> Result<Vec<Ciphertext>, CodecFault>
     requires { ArePassed (parameters_of params.now) }
-    ensures read { IfOk result (λ cts. cts.items ≡ query_ciphertexts (parameters_of params.now) body.now) }
+    ensures read { IfOk result (λ cts.
+        cts.items ≡ query_ciphertexts (parameters_of params.now) body.now) }
     ensures query { OnOk result (IsQuery (parameters_of params.now) body.now) }
     ensures faultless { OnOk result (query_fault (parameters_of params.now) body.now ≡ None) }
-    ensures spelled { IfOk result (λ cts. query_body (parameters_of params.now) cts.items ≡ body.now) }
-    ensures fault { IfErr result (λ fault. (fault ≡ NoMemory) ⊎ (query_fault (parameters_of params.now) body.now ≡ Some fault)) }
-    ensures refused { IfErr result (λ fault. (fault ≡ NoMemory → ⊥) → IsQuery (parameters_of params.now) body.now → ⊥) }
+    ensures spelled { IfOk result (λ cts.
+        query_body (parameters_of params.now) cts.items ≡ body.now) }
+    ensures fault { IfErr result (λ fault.
+        (fault ≡ NoMemory) ⊎ (query_fault (parameters_of params.now) body.now ≡ Some fault)) }
+    ensures refused { IfErr result (λ fault.
+        (fault ≡ NoMemory → ⊥) → IsQuery (parameters_of params.now) body.now → ⊥) }
 {
     test_head(params, body)?;
     read_ciphertexts(alloc, &body[HEADER..], ciphertexts(params))
@@ -46,9 +50,11 @@ pub fn write_query(
 ) -> Result<Vec<u8>, AllocError>
     requires passed { ArePassed (parameters_of params.now) }
     requires number { length query.now ≡ params.now.rows * params.now.capacity }
-    ensures written { IfOk result (λ body. body.items ≡ query_body (parameters_of params.now) query.now) }
+    ensures written { IfOk result (λ body.
+        body.items ≡ query_body (parameters_of params.now) query.now) }
     ensures query { IfOk result (λ body. IsQuery (parameters_of params.now) body.items) }
-    ensures read_back { IfOk result (λ body. query_ciphertexts (parameters_of params.now) body.items ≡ query.now) }
+    ensures read_back { IfOk result (λ body.
+        query_ciphertexts (parameters_of params.now) body.items ≡ query.now) }
 {
     let mut body = Vec::with_capacity(alloc, HEADER + CIPHERTEXT_BYTES * query.len())?;
     body.extend_from_slice(&params.to_bytes())?;
@@ -60,7 +66,8 @@ pub fn write_query(
 /// the pieces one after another. The parameters are passed ones. It fails only for want of memory.
 pub fn join_query(alloc: Global, params: &Params, pieces: &[Vec<u8>]) -> Result<Vec<u8>, AllocError>
     requires { ArePassed (parameters_of params.now) }
-    ensures joined { IfOk result (λ body. body.items ≡ parameter_bytes (parameters_of params.now) ++ flat_map (λ piece. piece.items) pieces.now) }
+    ensures joined { IfOk result (λ body. body.items ≡ parameter_bytes (parameters_of params.now)
+        ++ flat_map (λ piece. piece.items) pieces.now) }
 {
     let mut body = Vec::with_capacity(alloc, HEADER + CIPHERTEXT_BYTES * ciphertexts(params))?;
     body.extend_from_slice(&params.to_bytes())?;
@@ -75,7 +82,8 @@ fn test_head(params: &Params, body: &[u8]) -> Result<(), CodecFault>
     requires { ArePassed (parameters_of params.now) }
     ensures size { OnOk result (length body.now ≡ query_length (parameters_of params.now)) }
     ensures header { OnOk result (take 8 body.now ≡ parameter_bytes (parameters_of params.now)) }
-    ensures fault { IfErr result (λ fault. query_fault (parameters_of params.now) body.now ≡ Some fault) }
+    ensures fault { IfErr result (λ fault.
+        query_fault (parameters_of params.now) body.now ≡ Some fault) }
 {
     let want = HEADER + CIPHERTEXT_BYTES * ciphertexts(params);
     if body.len() != want {

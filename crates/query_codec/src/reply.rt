@@ -36,12 +36,17 @@ pub struct ReplyBody {
 /// residue, counted over the ciphertexts. A body that is read is the only one of what it says.
 pub fn read_reply(alloc: Global, params: &Params, body: &[u8]) -> Result<ReplyBody, CodecFault>
     requires { ArePassed (parameters_of params.now) }
-    ensures counts { IfOk result (λ reply. reply.counts ≡ reply_counts (parameters_of params.now) body.now) }
-    ensures ciphertexts { IfOk result (λ reply. reply.cts ≡ reply_ciphertexts (parameters_of params.now) body.now) }
+    ensures counts { IfOk result (λ reply.
+        reply.counts ≡ reply_counts (parameters_of params.now) body.now) }
+    ensures ciphertexts { IfOk result (λ reply.
+        reply.cts ≡ reply_ciphertexts (parameters_of params.now) body.now) }
     ensures reply { OnOk result (IsReply (parameters_of params.now) body.now) }
-    ensures spelled { IfOk result (λ reply. reply_bytes (parameters_of params.now) reply.counts reply.cts ≡ body.now) }
-    ensures fault { IfErr result (λ fault. (fault ≡ NoMemory) ⊎ (reply_fault (parameters_of params.now) body.now ≡ Some fault)) }
-    ensures refused { IfErr result (λ fault. (fault ≡ NoMemory → ⊥) → IsReply (parameters_of params.now) body.now → ⊥) }
+    ensures spelled { IfOk result (λ reply.
+        reply_bytes (parameters_of params.now) reply.counts reply.cts ≡ body.now) }
+    ensures fault { IfErr result (λ fault.
+        (fault ≡ NoMemory) ⊎ (reply_fault (parameters_of params.now) body.now ≡ Some fault)) }
+    ensures refused { IfErr result (λ fault.
+        (fault ≡ NoMemory → ⊥) → IsReply (parameters_of params.now) body.now → ⊥) }
 {
     let counts = read_reply_head(alloc, params, body)?;
     let cts = read_ciphertexts(alloc, &body[head(params)..], planes(params, body))?;
@@ -55,9 +60,11 @@ pub fn read_reply(alloc: Global, params: &Params, body: &[u8]) -> Result<ReplyBo
 /// ciphertexts is read by [`read_reply_ciphertext`].
 pub fn read_reply_head(alloc: Global, params: &Params, body: &[u8]) -> Result<Counts, CodecFault>
     requires { ArePassed (parameters_of params.now) }
-    ensures counts { IfOk result (λ counts. counts ≡ reply_counts (parameters_of params.now) body.now) }
+    ensures counts { IfOk result (λ counts.
+        counts ≡ reply_counts (parameters_of params.now) body.now) }
     ensures head { OnOk result (IsReplyHead (parameters_of params.now) body.now) }
-    ensures fault { IfErr result (λ fault. (fault ≡ NoMemory) ⊎ (reply_fault (parameters_of params.now) body.now ≡ Some fault)) }
+    ensures fault { IfErr result (λ fault.
+        (fault ≡ NoMemory) ⊎ (reply_fault (parameters_of params.now) body.now ≡ Some fault)) }
 {
     test_head(params, body)?;
     let counts = read_counts(alloc, body, params.rows as usize)?;
@@ -96,10 +103,13 @@ pub fn write_reply(
     requires passed { ArePassed (parameters_of params.now) }
     requires rows { length counts.now ≡ params.now.rows }
     requires planes { length cts.now ≡ reply_planes (parameters_of params.now) counts.now }
-    ensures written { IfOk result (λ body. body.items ≡ reply_bytes (parameters_of params.now) counts.now cts.now) }
+    ensures written { IfOk result (λ body.
+        body.items ≡ reply_bytes (parameters_of params.now) counts.now cts.now) }
     ensures reply { IfOk result (λ body. IsReply (parameters_of params.now) body.items) }
-    ensures counts_back { IfOk result (λ body. reply_counts (parameters_of params.now) body.items ≡ counts.now) }
-    ensures read_back { IfOk result (λ body. reply_ciphertexts (parameters_of params.now) body.items ≡ cts.now) }
+    ensures counts_back { IfOk result (λ body.
+        reply_counts (parameters_of params.now) body.items ≡ counts.now) }
+    ensures read_back { IfOk result (λ body.
+        reply_ciphertexts (parameters_of params.now) body.items ≡ cts.now) }
 {
     let size = HEADER + 2 * counts.len() + CIPHERTEXT_BYTES * cts.len();
     let mut body = Vec::with_capacity(alloc, size)?;
@@ -115,7 +125,8 @@ fn test_head(params: &Params, body: &[u8]) -> Result<(), CodecFault>
     ensures head { OnOk result (reply_head (parameters_of params.now) ≤ length body.now) }
     ensures header { OnOk result (take 8 body.now ≡ parameter_bytes (parameters_of params.now)) }
     ensures size { OnOk result (length body.now ≡ reply_length (parameters_of params.now) (reply_counts (parameters_of params.now) body.now)) }
-    ensures fault { IfErr result (λ fault. reply_fault (parameters_of params.now) body.now ≡ Some fault) }
+    ensures fault { IfErr result (λ fault.
+        reply_fault (parameters_of params.now) body.now ≡ Some fault) }
 {
     let head = head(params);
     if body.len() < head {
@@ -168,7 +179,8 @@ fn bundles(body: &[u8], rows: usize) -> usize
 fn read_counts(alloc: Global, body: &[u8], rows: usize) -> Result<Vec<u16>, AllocError>
     requires few { rows ≤ 4 }
     requires within { 8 + 2 * rows ≤ length body.now }
-    ensures { IfOk result (λ counts. counts.items ≡ map (row_count body.now) (range_with_len 0 rows)) }
+    ensures { IfOk result (λ counts.
+        counts.items ≡ map (row_count body.now) (range_with_len 0 rows)) }
 {
     let mut counts = Vec::with_capacity(alloc, rows)?;
     for row in 0..rows {
