@@ -9,18 +9,14 @@ use Rattle.psi_bundle.specs.Versions.{Version}
 use Rattle.query_codec.specs.Replies.{reply_body}
 use Rattle.psi_frames.specs.Requests.{asked_ciphertexts}
 use Rattle.psi_frames.specs.Served.{Exchange, IsEvaluated, IsRecorded, place_of}
+use Rattle.psi_frames.proofs.EntryLists.{front-get}
 use Rattle.sender_core.proofs.StampHistories.{version-more}
 
--- an entry within a history stays where it is
-get-more : (xs rest : List Entry) (k : ℕ) → k < length xs → slice_get (xs ++ rest) k ≡ slice_get xs k
-get-more [] rest k lt = absurd (omega arith)
-get-more (x ∷ xs) rest zero lt = refl
-get-more (x ∷ xs) rest (suc k) lt = get-more xs rest k (omega arith)
 
 module _ (old new : List Entry) (longer : IsPrefix old new) (e : Exchange) (within : (x : ℕ) → place_of e.reply ≡ Some x → x < length old) where
   pub recorded-goes : IsRecorded old e → IsRecorded new e
   recorded-goes h = λ p a at tells.
-      ap (λ (es : List Entry). slice_get es p) longer.1 ∙ get-more old longer.0 p (within p at) ∙ h p a at tells
+      ap (λ (es : List Entry). slice_get es p) longer.1 ∙ front-get old longer.0 p (within p at) ∙ h p a at tells
 
   pub evaluated-goes : (p : Parameters) (start : Version) → IsEvaluated p start old e → IsEvaluated p start new e
   evaluated-goes p start h = λ x body at told.

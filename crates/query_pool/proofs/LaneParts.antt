@@ -10,17 +10,12 @@ use Rattle.psi_turnstile.specs.Counting.{IsPrefix}
 use Rattle.query_codec.specs.Replies.{reply_body}
 use Rattle.psi_frames.specs.Requests.{asked_ciphertexts}
 use Rattle.psi_frames.specs.Served.{Exchange}
+use Rattle.psi_frames.proofs.EntryLists.{front-get}
 use Rattle.live_sender.specs.declared.origin.Origin.{Origin}
 use Rattle.live_sender.specs.Histories.{first_version}
 use Rattle.live_sender.specs.Turns.{Known}
 use Rattle.query_pool.specs.Joined.{IsPart}
 use Rattle.query_pool.specs.Lanes.{IsLane}
-
--- what a front of a history tells, the history tells
-pub front-get : (front rest : List Entry) (x : ℕ) → x < length front → slice_get (front ++ rest) x ≡ slice_get front x
-front-get [] rest x lt = absurd (omega (arith, lt))
-front-get (e ∷ es) rest x lt =
-    slice_get-get_or ((e ∷ es) ++ rest) x e (omega (arith, lt, length-append (e ∷ es) rest)) ∙ ap Some (get_or-append (e ∷ es) rest e x lt) ∙ sym (slice_get-get_or (e ∷ es) x e lt)
 
 pub prefix-length : {X : Type 0} (xs ys : List X) → IsPrefix xs ys → length xs ≤ length ys
 prefix-length xs ys front = let size = ap length front.1 ∙ length-append xs front.0 in omega (arith, size)

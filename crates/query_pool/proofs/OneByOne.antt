@@ -18,7 +18,7 @@ use Rattle.psi_frames.specs.Requests.{IsFit, call_of, code_of, is_repack, journa
 use Rattle.psi_frames.specs.Served.{Exchange, HasPlaceOrIsFull, IsEvaluated, IsRecorded, PlacesRise, SeesOwn, Sent, StaysFull, addressed, all_places, from_of, from_or_zero, place_of}
 use Rattle.psi_frames.proofs.Lanes.{paired}
 use Rattle.psi_frames.proofs.LaneServes.{next_entry}
-use Rattle.psi_frames.proofs.Placed.{none_from, some_place}
+use Rattle.psi_frames.proofs.Placed.{from_placed, none_from, some_place}
 use Rattle.live_sender.specs.declared.origin.Origin.{Origin}
 use Rattle.live_sender.specs.Histories.{first_version}
 use Rattle.live_sender.specs.Turns.{Known, IsSeated, GoesOn}
@@ -111,17 +111,6 @@ one-bad z v p session number code seated fit = record {
 
 -- ---- one more
 
-from-placed : (told : Reply) (from : ℕ) → from_of told ≡ Some from → (n : ℕ) × (place_of told ≡ Some n)
-from-placed (reply.Repacked place own before after) from is = (place, refl)
-from-placed (reply.Moved place own stamp) from is = (place, refl)
-from-placed (reply.Added place) from is = absurd (none-some from is)
-from-placed (reply.Replaced place) from is = absurd (none-some from is)
-from-placed (reply.Removed place) from is = absurd (none-some from is)
-from-placed (reply.Absent place) from is = absurd (none-some from is)
-from-placed (reply.Full place planes cells) from is = absurd (none-some from is)
-from-placed (reply.Answer place body) from is = absurd (none-some from is)
-from-placed (reply.Refused code) from is = absurd (none-some from is)
-
 -- a seat that makes no entry
 pub lane-idle : (z : Origin) (v w : Known) → GoesOn z v w → w.own ≡ v.own → IsLane z v w []
 lane-idle z v w goes stayed = record {
@@ -207,7 +196,7 @@ module _ (z : Origin) (v w u : Known) (es : List Exchange) (e : Exchange) (l : I
       all_pairs_push SeesOwn es e l.sees_own
       (λ k d lt x from at has.
       let old = (l.placed k d lt x at).1 in
-      let placed = from-placed e.reply from has in
+      let placed = from_placed e.reply from has in
       let new = (o.since from placed.0 has placed.1).0 in
       omega (arith, old, new))
 
