@@ -178,8 +178,11 @@ fn open_placed<R: Threads + Sync>(
                     (length planes.now
                     ≡ planes_of_bundle (parameters_of params.now) * sum counts.now) }
                 ensures { IfOk result (λ found. found.items ≡ opened_item
-                    (record { parameters = parameters_of params.entry.now;
-                    counts = counts.entry.now; planes = planes.entry.now }) x.now) }
+                    (record {
+                      parameters = parameters_of params.entry.now;
+                      counts = counts.entry.now;
+                      planes = planes.entry.now;
+                    }) x.now) }
             { open_item(alloc, params, counts, planes, x) },
         )
         .collect::<Result<Vec<Vec<Found>>, AllocError>>(rt, alloc)??;
