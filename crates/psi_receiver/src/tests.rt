@@ -148,7 +148,7 @@ const AT_MODULUS: [(usize, [u8; 5]); 2] = [
 
 // Bytes with five others at a place.
 fn with_five(alloc: Global, bytes: &[u8], at: usize, five: &[u8; 5]) -> Result<Vec<u8>, AllocError>
-    requires { at < 2 ^ 20 }
+    requires { at < 1048576 }
 {
     let mut changed = bytes.get(..at).unwrap_or(&[]).to_vec(alloc)?;
     changed.extend_from_slice(five)?;
