@@ -58,7 +58,7 @@ pub fn serve<R: Threads + Wait + Sync, S: Source, K: Sink, G: Gate>(
     requires builders { shape.builders ≤ 4 }
     ensures served { HasServed (empty_version (parameters_of params.now)) (nat_eq shape.workers 1)
         (ends (S.told source.old) (K.told sink.old)) (ends (S.told source.new) (K.told sink.new))
-            result }
+        result }
     ensures good { IfSome (S.told source.old).left (λ bytes. AreGoodFrames bytes → result.status ≡ 4
         → ⊥) }
     ensures bad { IfSome (S.told source.old).left (λ bytes. AreBadFrames bytes → result.status ≡ 0
@@ -88,7 +88,7 @@ fn serve_book<R: Threads + Wait + Sync, S: Source, K: Sink, G: Gate>(
     requires builders { shape.builders ≤ 4 }
     ensures served { HasServed (start_of book) (nat_eq shape.workers 1)
         (ends (S.told source.old) (K.told sink.old)) (ends (S.told source.new) (K.told sink.new))
-            result }
+        result }
     ensures good { IfSome (S.told source.old).left (λ bytes. AreGoodFrames bytes → result.status ≡ 4
         → ⊥) }
     ensures bad { IfSome (S.told source.old).left (λ bytes. AreBadFrames bytes → result.status ≡ 0
@@ -121,7 +121,7 @@ pub fn serve_alone<R: Threads + Sync, S: Source, K: Sink>(
     requires passed { ArePassed (parameters_of params.now) }
     ensures served { HasServed (empty_version (parameters_of params.now)) true
         (ends (S.told source.old) (K.told sink.old)) (ends (S.told source.new) (K.told sink.new))
-            result }
+        result }
     ensures good { IfSome (S.told source.old).left (λ bytes. AreGoodFrames bytes → result.status ≡ 4
         → ⊥) }
     ensures bad { IfSome (S.told source.old).left (λ bytes. AreBadFrames bytes → result.status ≡ 0
@@ -147,7 +147,7 @@ fn serve_book_alone<R: Threads + Sync, S: Source, K: Sink>(
     requires none_entered { book.journal ≡ [] }
     ensures served { HasServed (start_of book) true
         (ends (S.told source.old) (K.told sink.old)) (ends (S.told source.new) (K.told sink.new))
-            result }
+        result }
     ensures good { IfSome (S.told source.old).left (λ bytes. AreGoodFrames bytes → result.status ≡ 4
         → ⊥) }
     ensures bad { IfSome (S.told source.old).left (λ bytes. AreBadFrames bytes → result.status ≡ 0

@@ -51,7 +51,7 @@ impl<F: Fn(Book<Cache>, Vec<Request>) -> Result<Round, AllocError> + Drop> OneSe
         requires answers { (book : _) (requests : _) (result : _)
             → F.post self.old.round book requests result
             → IfOk result (λ round. HasAnsweredRound (parameters_of params.now) self.old.alone book
-                round.book requests.items round.replies.items) }
+            round.book requests.items round.replies.items) }
         requires own { IsOwnBook (parameters_of params.now) self.old.book }
         requires few { length requests.items ≤ 4096 }
         requires asks { count_asks requests.items ≤ asks_of_round }

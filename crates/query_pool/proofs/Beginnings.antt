@@ -12,7 +12,6 @@ use Rattle.psi_frames.specs.Served.{Exchange, IsEvaluated, IsRecorded, place_of}
 use Rattle.psi_frames.proofs.EntryLists.{front-get}
 use Rattle.sender_core.proofs.StampHistories.{version-more}
 
-
 module _ (old new : List Entry) (longer : IsPrefix old new) (e : Exchange) (within : (x : ℕ) → place_of e.reply ≡ Some x → x < length old) where
   pub recorded-goes : IsRecorded old e → IsRecorded new e
   recorded-goes h = λ p a at tells.

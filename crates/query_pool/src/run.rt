@@ -90,11 +90,11 @@ impl<A: Server> Run<A> {
         ensures takes { OnOk result (Takes (A.rule (A.kind self.old.server))
             (A.state self.old.server) (A.state self.new.server)
             (progress_of self.old) (progress_of self.new) frame (K.told sink.old)
-                (K.told sink.new)) }
+            (K.told sink.new)) }
         ensures stops { IfErr result (TakeStops (A.rule (A.kind self.old.server))
             (A.state self.old.server)
             (progress_of self.old) (progress_of self.new) frame (K.told sink.old)
-                (K.told sink.new)) }
+            (K.told sink.new)) }
         ensures under { OnOk result (A.is_under self.new.server (parameters_of params.now)) }
         ensures kind { OnOk result (A.kind self.new.server ≡ A.kind self.old.server) }
     {
@@ -120,14 +120,14 @@ impl<A: Server> Run<A> {
             (progress_of self.old) (K.told sink.old) }
         ensures goes { OnOk result ((mark : Mark) (bytes : List ℕ)
             → Stands (A.rule (A.kind self.old.server)) (A.state self.old.server) mark bytes feed.old
-                (progress_of self.old) (K.told sink.old)
+            (progress_of self.old) (K.told sink.old)
             → Stands (A.rule (A.kind self.old.server)) (A.state self.new.server) mark bytes feed.new
-                (progress_of self.new) (K.told sink.new)) }
+            (progress_of self.new) (K.told sink.new)) }
         ensures stops { IfErr result (λ stop. (mark : Mark) (bytes : List ℕ)
             → Stands (A.rule (A.kind self.old.server)) (A.state self.old.server) mark bytes feed.old
-                (progress_of self.old) (K.told sink.old)
+            (progress_of self.old) (K.told sink.old)
             → StopsAt (A.rule (A.kind self.old.server)) mark bytes (progress_of self.new)
-                (K.told sink.new) stop) }
+            (K.told sink.new) stop) }
         ensures taken { OnOk result (feed.new.ready ≡ []) }
         ensures fault { OnOk result (feed.new.fault ≡ feed.old.fault) }
         ensures under { OnOk result (A.is_under self.new.server (parameters_of params.now)) }
@@ -153,15 +153,15 @@ impl<A: Server> Run<A> {
             (progress_of self.old) (K.told sink.old) }
         ensures all { OnOk result ((mark : Mark) (bytes : List ℕ) (feed : Feeding) → feed.ready ≡ []
             → Stands (A.rule (A.kind self.old.server)) (A.state self.old.server) mark bytes feed
-                (progress_of self.old) (K.told sink.old)
+            (progress_of self.old) (K.told sink.old)
             → HasAnsweredAll (A.rule (A.kind self.old.server)) mark bytes feed
-                (progress_of self.new) (K.told sink.new)) }
+            (progress_of self.new) (K.told sink.new)) }
         ensures stops { IfErr result (λ stop. (mark : Mark) (bytes : List ℕ) (feed : Feeding)
             → feed.ready ≡ []
             → Stands (A.rule (A.kind self.old.server)) (A.state self.old.server) mark bytes feed
-                (progress_of self.old) (K.told sink.old)
+            (progress_of self.old) (K.told sink.old)
             → LastStops (A.rule (A.kind self.old.server)) mark bytes feed (progress_of self.new)
-                (K.told sink.new) stop) }
+            (K.told sink.new) stop) }
     {
         if self.server.is_empty() {
             return Ok(());
@@ -187,19 +187,19 @@ impl<A: Server> Run<A> {
             (progress_of self.old) (K.told sink.old) }
         ensures goes { OnOk result ((mark : Mark) (bytes : List ℕ)
             → Stands (A.rule (A.kind self.old.server)) (A.state self.old.server) mark bytes feed.old
-                (progress_of self.old) (K.told sink.old)
+            (progress_of self.old) (K.told sink.old)
             → length bytes + room ≡ most_bytes
             → Stands (A.rule (A.kind self.old.server)) (A.state self.new.server) mark
-                (bytes ++ piece.now) feed.new (progress_of self.new) (K.told sink.new)) }
+            (bytes ++ piece.now) feed.new (progress_of self.new) (K.told sink.new)) }
         ensures left { IfOk result (λ left. length piece.now + left ≡ room) }
         ensures faultless { OnOk result (feed.new.fault ≡ None) }
         ensures taken { OnOk result (feed.new.ready ≡ []) }
         ensures stops { IfErr result (λ stop. (mark : Mark) (bytes : List ℕ)
             → Stands (A.rule (A.kind self.old.server)) (A.state self.old.server) mark bytes feed.old
-                (progress_of self.old) (K.told sink.old)
+            (progress_of self.old) (K.told sink.old)
             → length bytes + room ≡ most_bytes
             → PieceStops (A.rule (A.kind self.old.server)) mark bytes piece.now room feed.new
-                (progress_of self.new) (K.told sink.new) stop) }
+            (progress_of self.new) (K.told sink.new) stop) }
         ensures under { OnOk result (A.is_under self.new.server (parameters_of params.now)) }
         ensures kind { OnOk result (A.kind self.new.server ≡ A.kind self.old.server) }
     {

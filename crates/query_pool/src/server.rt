@@ -44,7 +44,7 @@ pub trait Server {
         ensures pushed { OnOk result ((rounds : List (List Frame)) (sents : List Sent)
             (waiting : List Frame)
             → state self.old rounds sents waiting
-                → state self.new rounds sents (waiting ++ frame ∷ [])) }
+            → state self.new rounds sents (waiting ++ frame ∷ [])) }
         ensures under { OnOk result ((p : Parameters) → is_under self.old p → is_under self.new p) }
         ensures kind { OnOk result (kind self.new ≡ kind self.old) };
 
@@ -52,7 +52,7 @@ pub trait Server {
     fn is_ended(&self) -> bool
         ensures { (rounds : List (List Frame)) (sents : List Sent) (waiting : List Frame)
             → state self.now rounds sents waiting
-                → (rule (kind self.now)).ends rounds waiting ≡ result };
+            → (rule (kind self.now)).ends rounds waiting ≡ result };
 
     /// Whether no frame waits.
     fn is_empty(&self) -> bool

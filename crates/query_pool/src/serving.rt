@@ -46,7 +46,7 @@ pub fn serve_frames<A: Server + Drop, S: Source, K: Sink>(
     requires begins { IsBeginning (A.rule (A.kind server)) (A.state server) }
     ensures served { HasServedBy (A.rule (A.kind server))
         (ends (S.told source.old) (K.told sink.old)) (ends (S.told source.new) (K.told sink.new))
-            result }
+        result }
     ensures good { IfSome (S.told source.old).left (λ bytes. AreGoodFrames bytes → result.status ≡ 4
         → ⊥) }
     ensures bad { IfSome (S.told source.old).left (λ bytes. AreBadFrames bytes → result.status ≡ 0
