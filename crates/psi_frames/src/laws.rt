@@ -6,8 +6,9 @@ ghost use Rattle.psi_frames.specs.ReplyTexts.{RepliesAreOne, RepliesAreTheirText
 ghost use Rattle.psi_frames.specs.Rounds.{RoundsAreOne};
 ghost use Rattle.psi_frames.specs.Served.{HistoryIsOne};
 
-/// From each start and behind each legal history, whatever the rounds of requests, exactly one text serves them as one
-/// lane does; it is that of the one-thread sender's replies. It does nothing: the clauses are what it is for.
+/// From each start that counts no entries, and behind each history that is legal from it, exactly one text serves rounds of
+/// requests as one lane does, if each refusal among them has a code below 7, as bytes decide it; it is that of the one-thread
+/// sender's replies. It does nothing: the clauses are what it is for.
 pub fn one_text_is_of_one_lane()
     ensures one { OneTextIsOfOneLane }
     ensures lane { LaneRepliesAreOfOneLane }

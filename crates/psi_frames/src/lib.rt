@@ -1,7 +1,17 @@
-//! Request and reply frames as bytes, and what replies serve what requests.
+//! Request and reply frames as bytes, how they fall into rounds, and what replies serve what requests.
 //!
 //! A frame is a 32-bit length, which counts the bytes after it; an 8-bit kind; a 16-bit session; a 32-bit
-//! number, which the reply repeats; and the body. All numbers are big-endian.
+//! number, which the reply repeats; and the body. All numbers are big-endian. A `Feed` takes bytes as they come and gives whole
+//! frames, and an `OpenRound` holds those of the round that has begun:
+//!
+//!     let mut feed = Feed::open(alloc)?;
+//!     feed.feed(alloc, piece)?;
+//!     while let Some(frame) = feed.next() { round.push(frame)?; }
+//!     feed.finish()?;
+//!
+//! `requests_of_round` makes the frames of a round requests: a Put, a Drop, an Ask, a Repack, or one that is refused with the code
+//! that its bytes decide. `text_of` writes the frames of replies, and `read_answer` reads one. What serves what is a relation over
+//! rounds of requests, replies and one history, in seven points: `IsServed` in `specs/Served`.
 #![tactic(auto)]
 
 mod answer;

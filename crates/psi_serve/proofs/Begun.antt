@@ -1,6 +1,7 @@
 -- A set of which nothing was served yet.
 use Rattle.std.specs.Prelude.{◌≡◌, ℕ, Bool, true, List, [], Option, Some, IfSome}
 use Rattle.std.proofs.Common.{refl, sym, ap, ◌∙◌, subst}
+use Rattle.std.proofs.lemmas.List.Elements.{All-nil}
 use Rattle.psi_residue.specs.Parameters.{Parameters}
 use Rattle.psi_bundle.specs.declared.history.Entry.{Entry}
 use Rattle.psi_bundle.specs.declared.member.Member.{Member}
@@ -12,13 +13,14 @@ use Rattle.psi_frames.proofs.Joins.{none_lane, none_served}
 use Rattle.query_pool.specs.Servers.{IsBeginning}
 use Rattle.sender_core.specs.Kept.{Contents, IsConsistent, start_of}
 use Rattle.psi_serve.specs.Books.{IsBookUnder, IsOwnBook}
-use Rattle.psi_serve.specs.Serving.{AreServedAlong, HasServedFrom, ServeSet, SetKind, kind_of, one_set}
+use Rattle.psi_serve.specs.Serving.{AreServedAlong, HasServedFrom, IsUnmoved, ServeSet, SetKind, kind_of, one_set}
 
 -- no rounds are served by no replies
 none-along : (p : Parameters) (start : Version) (alone : Bool) (journal : List Entry) → journal ≡ [] → AreServedAlong p start alone journal [] []
 none-along p start alone journal none = record {
   served = subst (λ (j : List Entry). IsServed p start [] j [] []) (sym none) (none_served p start [] tt);
   one_lane = λ _. none_lane;
+  unmoved = λ _. All-nil IsUnmoved;
 }
 
 pub none-serve : (alone : Bool) (start : Version) → ServeSet alone (Some start) [] []
@@ -38,4 +40,4 @@ module _ {C : Type 0} (alone : Bool) (book : Contents C) (own : Option (Contents
 pub under-of : {C : Type 0} (contents : C → List (List Member)) (under : C → List ℕ → Type 0) (p : Parameters) (book : Contents C) (own : Option (Contents C)) → own ≡ Some book → IsConsistent contents under book → book.parameters ≡ p
     → IsOwnBook p own
 under-of {C} contents under p book own is consistent same =
-    subst (λ (b : Option (Contents C)). IfSome b (IsBookUnder p)) (sym is) (record { parameters = same; legal = consistent.legal; leads = consistent.replayed })
+    subst (λ (b : Option (Contents C)). IfSome b (IsBookUnder p)) (sym is) (record { parameters = same; legal = consistent.legal; leads = consistent.replayed; no_stamps = consistent.begun.no_stamps })

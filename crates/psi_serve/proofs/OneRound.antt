@@ -14,12 +14,13 @@ use Rattle.psi_frames.specs.declared.frame.Frame.{Frame}
 use Rattle.psi_frames.specs.declared.reply.Reply.{Reply}
 use Rattle.psi_frames.specs.declared.request.Request.{Request}
 use Rattle.psi_frames.specs.declared.texts.Address.{Address}
-use Rattle.psi_frames.specs.OneLane.{HasByteCode}
+use Rattle.psi_frames.specs.OneLane.{HasByteCode, HasNoStamps}
 use Rattle.psi_frames.specs.Requests.{number_of, requests_from, session_of}
 use Rattle.psi_frames.specs.Rounds.{request_rounds}
 use Rattle.psi_frames.specs.Served.{IsOneLane, IsServed, Sent, addressed, exchanges, requests_of, text_of}
 use Rattle.psi_frames.specs.Texts.{address_of, sent_to}
 use Rattle.psi_frames.proofs.Joins.{round_joins, round_joins_lane}
+use Rattle.psi_frames.proofs.NeverMoved.{never_moved}
 use Rattle.psi_frames.proofs.RoundRequests.{codes-of, few-requests}
 use Rattle.psi_frames.proofs.Sending.{sent-addressed}
 use Rattle.query_pool.specs.Servers.{AnswersFrames, State}
@@ -54,12 +55,15 @@ pub same-start : {C : Type 0} (old new : Contents C) → new.parameters ≡ old.
 same-start old new same begun = λ i. record { parameters = same i; count = 0; labels = fin.from_entries (begun i).labels; rows = (begun i).rows }
 
 -- the book that was there
-pub old-under : {C : Type 0} (p : Parameters) (before : Option (Contents C)) (old : Contents C) → before ≡ Some old → IsOwnBook p before → old.parameters ≡ p
-old-under {C} p before old was own = (subst (λ (b : Option (Contents C)). IfSome b (IsBookUnder p)) was own).parameters
+pub old-under : {C : Type 0} (p : Parameters) (before : Option (Contents C)) (old : Contents C) → before ≡ Some old → IsOwnBook p before → IsBookUnder p old
+old-under {C} p before old was own = subst (λ (b : Option (Contents C)). IfSome b (IsBookUnder p)) was own
 
 -- A round that a book has answered.
 module _ {C : Type 0} (p : Parameters) (alone : Bool) (old new : Contents C) (frames : List Frame) (requests : List Request) (replies : List Reply)
-    (under : old.parameters ≡ p) (are : requests ≡ requests_from p 0 frames) (has : HasAnsweredRound p alone old new requests replies) where
+    (own : IsBookUnder p old) (are : requests ≡ requests_from p 0 frames) (has : HasAnsweredRound p alone old new requests replies) where
+  under : old.parameters ≡ p
+  under = own.parameters
+
   few-next : length (addressed requests replies) ≤ length frames
   few-next = omega (arith, length-addressed requests replies has.one_each, has.one_each, ap length are, few-requests p 0 frames)
 
@@ -74,12 +78,17 @@ module _ {C : Type 0} (p : Parameters) (alone : Bool) (old new : Contents C) (fr
       → AreServedAlong p (start_of old) alone new.journal (rounds ++ frames ∷ []) (sents ++ addressed requests replies)
   along rounds sents was =
       let next = addressed requests replies in
+      let all_served : IsServed p (start_of old) [] new.journal (request_rounds p (rounds ++ frames ∷ [])) (sents ++ next) =
+      subst (λ (all : List (List Request)). IsServed p (start_of old) [] new.journal all (sents ++ next)) (sym (rounds-more p rounds frames))
+      (round_joins p (start_of old) [] old.journal new.journal (request_rounds p rounds) (requests_from p 0 frames) sents next was.served round-served (no-codes p rounds)) in
+      let lane : alone ≡ true → IsOneLane (exchanges (request_rounds p (rounds ++ frames ∷ [])) (sents ++ next)) =
+      λ e. subst (λ (all : List (List Request)). IsOneLane (exchanges all (sents ++ next))) (sym (rounds-more p rounds frames))
+      (round_joins_lane p (start_of old) [] old.journal new.journal (request_rounds p rounds) (requests_from p 0 frames) sents next was.served round-served (no-codes p rounds)
+      (was.one_lane e) (round-lane e)) in
       record {
-        served = subst (λ (all : List (List Request)). IsServed p (start_of old) [] new.journal all (sents ++ next)) (sym (rounds-more p rounds frames))
-            (round_joins p (start_of old) [] old.journal new.journal (request_rounds p rounds) (requests_from p 0 frames) sents next was.served round-served (no-codes p rounds));
-        one_lane = λ e. subst (λ (all : List (List Request)). IsOneLane (exchanges all (sents ++ next))) (sym (rounds-more p rounds frames))
-            (round_joins_lane p (start_of old) [] old.journal new.journal (request_rounds p rounds) (requests_from p 0 frames) sents next was.served round-served (no-codes p rounds)
-            (was.one_lane e) (round-lane e));
+        served = all_served;
+        one_lane = lane;
+        unmoved = λ e. never_moved p (start_of old) [] new.journal (request_rounds p (rounds ++ frames ∷ [])) (sents ++ next) refl own.no_stamps all_served (lane e);
       }
 
   behind : (rounds : List (List Frame)) (sents : List Sent) → HasServedFrom alone (Some old) rounds sents
@@ -107,6 +116,7 @@ module _ {C : Type 0} (p : Parameters) (alone : Bool) (old new : Contents C) (fr
         parameters = has.parameters ∙ under;
         legal = subst (λ (v : Version). IsLegal v new.journal) (sym start) has.served.served.stepped.legal;
         leads = subst (λ (v : Version). replay v new.journal ≡ version_of new) (sym start) has.leads;
+        no_stamps = subst HasNoStamps (sym start) own.no_stamps;
       }
 
   -- of a book that was there, and is there again

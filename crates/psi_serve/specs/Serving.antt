@@ -1,20 +1,27 @@
 -- What serving one set leaves of its source and its sink, by its status.
-use Rattle.std.specs.Prelude.{◌≡◌, Bool, true, false, List, [], Option, None, Some}
+use Rattle.std.specs.Prelude.{◌≡◌, ℕ, Bool, true, false, List, [], Option, None, Some}
+use Rattle.std.specs.List.{All}
 use Rattle.psi_residue.specs.Parameters.{Parameters}
 use Rattle.psi_bundle.specs.declared.history.Entry.{Entry}
 use Rattle.psi_bundle.specs.Versions.{Version}
 use Rattle.psi_outside.specs.Ends.{Ends}
 use Rattle.psi_frames.specs.declared.frame.Frame.{Frame}
+use Rattle.psi_frames.specs.declared.reply.Reply.TheVariants as reply
 use Rattle.psi_frames.specs.Rounds.{AreRounds, is_full, request_rounds}
-use Rattle.psi_frames.specs.Served.{IsOneLane, IsServed, Sent, exchanges}
+use Rattle.psi_frames.specs.Served.{Exchange, IsOneLane, IsServed, Sent, exchanges}
 use Rattle.query_pool.specs.declared.round.Served.{Served}
 use Rattle.query_pool.specs.Serving.{HasServedBy, Rule}
 use Rattle.sender_core.specs.Kept.{Contents, start_of}
 
--- The replies serve the rounds from a start, along this history. Alone: they are those of one lane.
+-- a reply that does not tell a Repack as moved
+abbrev pub IsUnmoved : Exchange → Type 0
+IsUnmoved e = (place from stamp : ℕ) → e.reply ≡ reply.Moved place from stamp → ⊥
+
+-- The replies serve the rounds from a start, along this history. Alone: they are those of one lane, and none is Moved.
 pub record AreServedAlong (p : Parameters) (start : Version) (alone : Bool) (history : List Entry) (rounds : List (List Frame)) (sents : List Sent) : Type 0 where
   pub served : IsServed p start [] history (request_rounds p rounds) sents
   pub one_lane : alone ≡ true → IsOneLane (exchanges (request_rounds p rounds) sents)
+  pub unmoved : alone ≡ true → All IsUnmoved (exchanges (request_rounds p rounds) sents)
 
 -- they do so along some history
 abbrev pub ServeRounds : Parameters → (start : Version) → (alone : Bool) → List (List Frame) → List Sent → Type 0

@@ -1,5 +1,18 @@
-//! The rounds of a set: their requests served by one lane, or by workers beside each other. And the loop over an input, from
-//! bytes to bytes, whatever answers its rounds.
+//! The rounds of a set: their requests answered from the book by one lane, or by workers beside each other with builders of caches.
+//! And the loop over an input, from bytes to bytes, whatever answers its rounds.
+//!
+//! A round is a list of requests, and its answer one reply for each, in their order, with the book behind it. `round_alone` takes the
+//! requests one after another: its replies are the one-thread sender's. `run_round` deals them to lanes by their sessions; each lane
+//! has a seat of the book's turnstile and a scratch of its own, makes one turn of the book for each request, and evaluates queries
+//! outside of any turn, on the snapshot that its turn gave. Builders fetch bundles without a cache and install what they built, in
+//! turns of their own. Whatever the threads do, the replies serve the round along one history (`IsServed` of `psi_frames`):
+//!
+//!     let round = run_round(rt, alloc, &params, book, requests, shape, &gate)?;
+//!
+//! A bundle without a cache is built into the lane's own block, for the one query. The book is given up where memory runs out.
+//!
+//! `serve_frames` reads a source in pieces, cuts it into frames and hands them to a `Server`, which says which frames end a round and
+//! answers a round at a time.
 #![tactic(auto)]
 
 mod alone;
