@@ -338,3 +338,65 @@ fn a_put_waits_for_no_evaluation(rt: HostRuntime) -> Result<(), Fail> {
     assert!(rt; gate.met(&rt, 0) && gate.met(&rt, 1));
     Ok(())
 }
+
+// Drops an item 1025 times, for which there is room, and answers whether each Drop was written down.
+fn drop_often(book: &mut Book<Cache>, alloc: Global) -> bool
+    ensures { book.new.parameters ≡ book.old.parameters }
+{
+    let mut entered = book.reserve(alloc, 1025).is_ok();
+    for _made in 0..1025u32 {
+        entered &= book.drop_tag(alloc, tag_of(b"abc")).is_ok();
+    }
+    entered
+}
+
+// A book whose journal has room for one entry more.
+fn nearly_full(alloc: Global, params: &Params) -> Option<Book<Cache>>
+    requires passed { ArePassed (parameters_of params.now) }
+    ensures { IfSome result (λ book. book.parameters ≡ parameters_of params.now) }
+{
+    let mut book = Book::open(alloc, params).ok()?;
+    let mut entered = true;
+    for _made in 0..1023u32 {
+        entered &= drop_often(&mut book, alloc);
+    }
+    if entered { Some(book) } else { None }
+}
+
+// What two Drops in a round are told there: by one lane for itself, or by some workers.
+fn two_at_the_end<R: Threads + Wait + Sync>(rt: &R, alloc: Global, workers: u8) -> Option<[Told; 2]>
+    requires { workers ≤ 8 }
+{
+    let params = Params::of(1, 1, 0);
+    if check(&params).is_err() {
+        return None;
+    }
+    let book = nearly_full(alloc, &params)?;
+    let requests = vec![in alloc; drop_item(), drop_item()].ok()?;
+    let round = if workers == 0 {
+        round_alone(rt, alloc, &params, book, requests).ok()?
+    } else {
+        let shape = Shape {
+            workers,
+            builders: 0,
+        };
+        run_round(rt, alloc, &params, book, requests, shape, &Open).ok()?
+    };
+    Some([
+        what_is_told(&round.replies[0]),
+        what_is_told(&round.replies[1]),
+    ])
+}
+
+// The first Drop is the journal's last entry, and the second is refused; the round is whole.
+#[test]
+fn a_round_meets_the_end_of_the_journal(rt: HostRuntime) {
+    let alloc = rt.alloc();
+    for workers in [0u8, 1, 2] {
+        assert_eq!(rt;
+            two_at_the_end(&rt, alloc, workers),
+            Some([Told::Absent(1048575), Told::Refused(7)]),
+            "{workers}"
+        );
+    }
+}
