@@ -14,13 +14,14 @@ answer_one p alone bytes text same a = record {
     rounds = a.replies.rounds;
     are_rounds = a.replies.are_rounds;
     one_lane = record {
-      history = a.replies.history;
+      history = a.replies.serve.0;
       sents = a.sents;
-      served = a.replies.served;
-      one_lane = a.replies.one_lane same;
+      served = a.replies.serve.1.served;
+      one_lane = a.replies.serve.1.one_lane same;
       text_is = a.text_is;
     };
   };
+  unmoved = a.replies.serve.1.unmoved same;
 }
 
 pub text_one : (p : Parameters) (alone : Bool) (left : Option (List ℕ)) (old new : Option (List ℕ)) → alone ≡ true → IfSome left (λ bytes. (text : List ℕ) × IsAnswered p alone bytes text × Appends old new text)

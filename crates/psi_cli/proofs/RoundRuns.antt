@@ -54,8 +54,8 @@ flushed_behind old new text (inl all) appended = inl all
 flushed_behind old new text (inr none) appended = inr (subst (λ (t : List ℕ). Appends old.written new.written t) none.0 appended, none.1)
 
 -- one fault more
-rose-once : {before now : ℕ} → now ≡ count_on before → Rose before now
-rose-once once = omega (arith, once)
+rose-once : (before now : ℕ) → now ≡ count_on before → Rose before now
+rose-once before now once = omega (arith, once)
 
 -- no entries were given
 none_given : (P : Entry → Type 0) → All P []
@@ -162,7 +162,7 @@ module _ (p : Parameters) (alone : Bool) (old new : Ends) (n : ℕ) where
 
   pub rounds_read : RunsRounds p alone old new n → n ≡ 5 → Rose old.source.faults new.source.faults
   rounds_read runs e =
-      let so = served_so runs (λ f. omega (arith, e, f)) in rose-once (so.leaves.read_fault (so.status_is ∙ e)).failed
+      let so = served_so runs (λ f. omega (arith, e, f)) in rose-once old.source.faults new.source.faults (so.leaves.read_fault (so.status_is ∙ e)).failed
 
   pub rounds_write : RunsRounds p alone old new n → n ≡ 6 → Rose old.sink.faults new.sink.faults
   rounds_write runs e =

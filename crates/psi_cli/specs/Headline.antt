@@ -1,5 +1,6 @@
 -- The headline: what `serve` and `replay` have done when they end with 0.
 use Rattle.std.specs.Prelude.{◌≡◌, ℕ, ◌≤◌, Bool, List, [], length, None, IfSome}
+use Rattle.std.specs.List.{All}
 use Rattle.std.specs.Io.KnownBytes.{Appends}
 use Rattle.psi_residue.specs.Parameters.{Parameters}
 use Rattle.psi_bundle.specs.Versions.{empty_version}
@@ -8,7 +9,7 @@ use Rattle.psi_frames.specs.Frames.{AreWholeFrames, most_bytes, request_table}
 use Rattle.psi_frames.specs.Rounds.{request_rounds}
 use Rattle.psi_frames.specs.Served.{IsOneLaneTextOf, Sent, exchanges, text_of}
 use Rattle.psi_outside.specs.Ends.{SinkTold, SourceTold}
-use Rattle.psi_serve.specs.Serving.{AreRepliesTo}
+use Rattle.psi_serve.specs.Serving.{AreRepliesTo, IsUnmoved}
 use Rattle.psi_cli.specs.QueryAnswers.{AnswersOpen}
 use Rattle.psi_cli.specs.Reading.{IsEnded}
 use Rattle.psi_cli.specs.Worlds.{IsFlushedSo, NoReadFailed, World}
@@ -41,11 +42,13 @@ pub record Headline (p : Parameters) (alone : Bool) (old new : World) : Type 0 w
 
 -- ---- one lane
 
--- the input is whole frames to its end, and the text is the one that serves their rounds, from the empty set, as one lane does
+-- the input is whole frames to its end, and the text is the one that serves their rounds, from the empty set, as one lane does; no reply
+-- is Moved
 pub record IsOneLaneAnswer (p : Parameters) (bytes text : List ℕ) : Type 0 where
   pub frames : List Frame
   pub whole : AreWholeFrames request_table bytes frames None
   pub one_lane : IsOneLaneTextOf p (empty_version p) [] frames text
+  pub unmoved : All IsUnmoved (exchanges (request_rounds p one_lane.rounds) one_lane.one_lane.sents)
 
 -- the same, by one lane
 abbrev pub AnswersOnOneLane : Parameters → SourceTold → (old new : SinkTold) → Type 0
