@@ -1,11 +1,13 @@
 //! Inputs served on an empty set of one row, with bins of one member and no labels.
-ghost use Rattle.std.specs.Prelude.{◌≤◌};
+ghost use Rattle.std.specs.Prelude.{◌≤◌, None};
+ghost use Rattle.psi_outside.specs.InMemory.{sink_told};
 
 use crate::serve_alone;
 use noise_ledger::{Params, check};
-use psi_outside::{MemorySink, MemorySource, Source};
+use psi_outside::{Failed, MemorySink, MemorySource, Sink, Source};
 use query_pool::Served;
 use std::alloc::{AllocError, Global};
+use std::sync::atomic::{AtomicUsize, Ordering};
 use std::test::Fail;
 use std::thread::Threads;
 
@@ -150,6 +152,81 @@ fn rounds_are_answered_as_they_are_read(rt: HostRuntime) {
         assert_eq!(rt; status, 6, "{fails}");
         assert!(rt; left.as_slice() == rest, "{fails}");
     }
+}
+
+// A source that gives a round only when the replies to all rounds before were flushed, and else fails.
+#[derive(Drop)]
+struct InTurn<'a> {
+    rounds: MemorySource,
+    reads: usize,
+    flushes: &'a AtomicUsize,
+    faults: u64,
+}
+
+impl<'a> Source for InTurn<'a> {
+    ghost told = { λ s. record { left = None; faults = s.faults } };
+
+    fn read(&mut self, buf: &mut [u8]) -> Result<usize, Failed> {
+        let is_due = self.flushes.load(Ordering::SeqCst) >= self.reads;
+        self.reads = self.reads.saturating_add(1);
+        match self.rounds.read(buf) {
+            Ok(count) if is_due => Ok(count),
+            _ => {
+                self.faults = self.faults.saturating_add(1);
+                Err(Failed)
+            }
+        }
+    }
+}
+
+// A sink that counts its flushes where that source sees them.
+#[derive(Drop)]
+struct Counting<'a> {
+    text: MemorySink,
+    flushes: &'a AtomicUsize,
+}
+
+impl<'a> Sink for Counting<'a> {
+    ghost told = { λ s. sink_told s.text };
+
+    fn write(&mut self, piece: &[u8]) -> Result<usize, Failed> {
+        self.text.write(piece)
+    }
+
+    fn flush(&mut self) -> Result<(), Failed> {
+        self.text.flush()?;
+        self.flushes.fetch_add(1, Ordering::SeqCst);
+        Ok(())
+    }
+}
+
+// What is answered to rounds of which each is asked when the replies before were read, and what is written.
+fn served_in_turn<R: Threads + Sync>(rt: &R, alloc: Global) -> Option<(Served, Vec<u8>)> {
+    let params = Params::of(1, 1, 0);
+    check(&params).ok()?;
+    let flushes = AtomicUsize::new(0);
+    let input = Vec::from_slice(alloc, PUTS).ok()?;
+    let mut source = InTurn {
+        rounds: MemorySource::open(input, 26, Vec::new(alloc)),
+        reads: 0,
+        flushes: &flushes,
+        faults: 0,
+    };
+    let mut sink = Counting {
+        text: MemorySink::open(alloc, 1 << 20, Vec::new(alloc)).ok()?,
+        flushes: &flushes,
+    };
+    let served = serve_alone(rt, alloc, &params, &mut source, &mut sink);
+    let text = Vec::from_slice(alloc, sink.text.bytes()).ok()?;
+    Some((served, text))
+}
+
+#[test]
+fn a_round_may_wait_for_the_replies_before_it(rt: HostRuntime) {
+    let alloc = rt.alloc();
+    let (served, text) = served_in_turn(&rt, alloc).expect(&rt, "memory");
+    assert_eq!(rt; (served.status, served.entries), (0, 3));
+    assert!(rt; text.as_slice() == REPLIES);
 }
 
 // What stands before a fault is served.
