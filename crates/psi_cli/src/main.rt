@@ -1,7 +1,13 @@
 //! The program: private set intersection with a live sender, both ends.
 //!
-//! `psi_run` is all that it does: it looks at the words, reads the source and the files, and writes to the sink. The tables of the
-//! words are those of `psi_words`; what is written stands in `specs/`.
+//! `main` makes the source, the sink and the files of the process and hands them to `psi_run`, which is all that the program does: it
+//! reads the words, checks the parameters, reads the source and the files, writes to the sink, and answers the status:
+//!
+//!     let status = psi_run(&rt, alloc, &words, &mut input, &mut files, &mut output, &Open);
+//!
+//! Its clauses say exactly what; the one that `serve` and `replay` are for is `headline`, in `specs/Headline`. The commands of one
+//! thread are in `plain`, `serve` and `demo` in `run`. What is said of a command is said of its kind (`specs/Kinds`). The tables of
+//! the words are those of `psi_words`; what is written stands in `specs/`.
 #![tactic(auto)]
 
 mod answer_file;
