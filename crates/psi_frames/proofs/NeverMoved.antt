@@ -160,7 +160,7 @@ no_move v (call.Repack r from) stamp h since e =
 -- ---- histories
 
 -- an entry of a legal history is the step's
-legal-at : (v : Version) (es : List Entry) (k : ℕ) (e : Entry) → IsLegal v es → slice_get es k ≡ Some e → e.answer ≡ (step (version_at v es k) e.call).answer
+pub legal-at : (v : Version) (es : List Entry) (k : ℕ) (e : Entry) → IsLegal v es → slice_get es k ≡ Some e → e.answer ≡ (step (version_at v es k) e.call).answer
 legal-at v [] k e legal at = absurd (none-some e at)
 legal-at v (x ∷ xs) zero e legal at =
     let same : x ≡ e = same_Some x e at in

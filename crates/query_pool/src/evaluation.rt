@@ -38,7 +38,7 @@ struct Query {
 /// # Errors
 ///
 /// If memory runs out.
-pub(crate) fn evaluate<R: Threads + Sync>(
+pub fn evaluate<R: Threads + Sync>(
     rt: &R,
     alloc: Global,
     params: &Params,

@@ -36,6 +36,7 @@ mod works;
 
 pub use crate::alone::round_alone;
 pub use crate::dealing::{Dealt, deal, merge};
+pub use crate::evaluation::evaluate;
 pub use crate::joined::run_round;
 pub use crate::lane::Numbered;
 pub use crate::round::{Round, Served};

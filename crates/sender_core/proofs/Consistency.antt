@@ -24,7 +24,7 @@ use Rattle.sender_core.proofs.Counting.{size-kept}
 use Rattle.sender_core.proofs.HistoryBytes.{empty-bytes, step-bytes, versions-bytes}
 
 -- one entry more is legal where its answer is the step's
-legal-append : (v : Version) (es : List Entry) (e : Entry) → IsLegal v es → e.answer ≡ (step (replay v es) e.call).answer → IsLegal v (es ++ e ∷ [])
+pub legal-append : (v : Version) (es : List Entry) (e : Entry) → IsLegal v es → e.answer ≡ (step (replay v es) e.call).answer → IsLegal v (es ++ e ∷ [])
 legal-append v [] e l h = (h, tt)
 legal-append v (x ∷ es) e l h = (l.0, legal-append (after v x) es e l.1 h)
 

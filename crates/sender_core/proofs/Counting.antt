@@ -15,7 +15,7 @@ use Rattle.sender_core.specs.Kept.{Kept, stamped_of, row_of, rows_of, kept_row, 
 abbrev pub size_of : List Row → ℕ
 size_of rows = sum (map (λ row. length row) rows)
 
-size-cons : (row : Row) (rows : List Row) → size_of (row ∷ rows) ≡ length row + size_of rows
+pub size-cons : (row : Row) (rows : List Row) → size_of (row ∷ rows) ≡ length row + size_of rows
 size-cons row rows = sum_by-cons (λ (k : ℕ). k) (length row) (map (λ (r : Row). length r) rows)
 
 short_case : (t : Bool) (xs ys : Row) (n : ℕ) → length xs ≤ n → length ys ≤ n → length (if t then xs else ys) ≤ n

@@ -11,8 +11,10 @@ pub mod RowLists
 pub mod UndoLemmas
 pub mod RowChanges
 pub mod Counting
+pub mod Growing
 pub mod TagMaps
 pub mod Entering
+pub mod WouldPut
 pub mod Consistency
 pub mod SoundRepacked
 pub mod SoundHistories

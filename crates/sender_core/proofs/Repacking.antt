@@ -55,6 +55,11 @@ row-bare C s (u ∷ us) = ap (λ (row : Row). record { stamp = s; bins = u.bins 
 row-packed : (C : Type 0) (capacity s : ℕ) (row : Row) → row_of {C = C} (map (bare_with s) (packed_bins capacity row)) ≡ packed_row capacity s (members_of_row row)
 row-packed C capacity s row = row-bare C s (packed_row capacity 0 (members_of_row row)) ∙ sym (fold-restamped capacity s 0 (members_of_row row) [])
 
+-- the number of packed bundles, whatever their stamp
+pub length-packed_row : (capacity s : ℕ) (row : Row) → length (packed_row capacity s (members_of_row row)) ≡ length (packed_bins capacity row)
+length-packed_row capacity s row =
+    ap length (sym (row-packed ℕ capacity s row)) ∙ length-map (map (bare_with {C = ℕ} s) (packed_bins capacity row)) _ ∙ length-map (packed_bins capacity row) (bare_with {C = ℕ} s)
+
 bare-at : {C : Type 0} (s : ℕ) (packed : List (List (List Member))) (u : ℕ) (k : Kept C) → IsSameOrBare s k (kept_at (map (bare_with s) packed) u)
 bare-at s [] u k = inr (inr refl, refl)
 bare-at s (b ∷ bs) zero k = inr (inl refl, refl)
@@ -157,9 +162,43 @@ module _ {C : Type 0} (old new : Contents C) (r from : ℕ) where
           (subst (λ (a : Answer). GainsEntry old new v.labels (slice_set old.rows r row) (record { call = call.Repack r from; answer = a })) told h)
           (rows-set (length old.journal + 1) old.rows r row keep))
 
+-- ---- what a Repack would answer
+
+module _ {C : Type 0} (h : Contents C) (r from stamp : ℕ) (is : stamp ≡ greatest_stamp (row_of (kept_row h.rows r))) where
+  newest_is : stamp ≡ greatest_stamp (row_at (rows_of h.rows) r)
+  newest_is = is ∙ ap greatest_stamp (sym (row-alone h.rows r))
+
+  pub would-move : from < stamp → answer.Moved stamp ≡ (step (version_of h) (call.Repack r from)).answer
+  would-move above =
+      let v = version_of h in
+      ap answer.Moved newest_is ∙ ap (λ (t : Step). t.answer) (sym (step-moved v r from (lt-leb (greatest_stamp (row_at v.rows r)) from (subst (λ (k : ℕ). from < k) newest_is above))))
+
+  pub would-pack : (before after : ℕ) (packed : List (List (List Member))) → stamp ≤ from → packed ≡ packed_bins h.parameters.capacity (row_of (kept_row h.rows r)) → before ≡ length (kept_row h.rows r) → after ≡ length packed
+      → answer.Done before after ≡ (step (version_of h) (call.Repack r from)).answer
+  would-pack before after packed below is_packed is_before is_after =
+      let v = version_of h in
+      let row = row-alone h.rows r in
+      let lengths : before ≡ length (row_at v.rows r) = is_before ∙ sym (length-map (kept_row h.rows r) _) ∙ ap length (sym row) in
+      let anew : after ≡ length (packed_row h.parameters.capacity (v.count + 1) (members_of_row (row_at v.rows r))) =
+      is_after ∙ ap length is_packed ∙ ap (λ (w : Row). length (packed_bins h.parameters.capacity w)) (sym row) ∙ sym (length-packed_row h.parameters.capacity (v.count + 1) (row_at v.rows r)) in
+      (λ i. answer.Done (lengths i) (anew i))
+      ∙ ap (λ (t : Step). t.answer) (sym (step-packed v r from (ap (λ (k : ℕ). nat_le k from) (sym newest_is) ∙ le-leb stamp from below)))
+
 -- ---- a view of the book's history
 
 module _ {C : Type 0} (contents : C → List (List Member)) (is_under : C → List ℕ → Type 0) where
+  -- first fit of a row's members has no more bundles than the row
+  pub packed-fewer : (h : Contents C) (r : ℕ) (packed : List (List (List Member))) → IsConsistent contents is_under h → packed ≡ packed_bins h.parameters.capacity (row_of (kept_row h.rows r))
+      → length packed ≤ length (kept_row h.rows r)
+  packed-fewer h r packed was is =
+      let row = row_of (kept_row h.rows r) in
+      let at : row_at (rows_of h.rows) r ≡ row = row-alone h.rows r in
+      let fit = length-packed h.parameters.capacity 0 row was.passed.ranges.some_members
+      (λ u b. subst (λ (w : Row). CanStand h.parameters.capacity (bin_at (bins_at w u) b)) at (record { apart = was.sound.apart r u b; within = was.sound.within_capacity r u b })) in
+      let bins = length-map (packed_row h.parameters.capacity 0 (members_of_row row)) (λ (u : Stamped). u.bins) in
+      let long = length-map (kept_row h.rows r) (λ (k : Kept C). let u : Stamped = record { stamp = k.stamp; bins = k.bins } in u) in
+      omega (arith, ap length is, bins, fit, long)
+
   pub packed-for : (h : Contents C) (view : RowSight C) (packed : List (List (List Member))) → IsConsistent contents is_under h → IsViewOf (start_of h) h.journal view
       → packed ≡ packed_bins h.parameters.capacity (row_of view.bundles) → IsPackedFor h view.row view.from packed
   packed-for h view packed was seen is = record { bundled = same; fewer = few }
@@ -178,11 +217,12 @@ module _ {C : Type 0} (contents : C → List (List Member)) (is_under : C → Li
           ]
 
       few : greatest_stamp (row_of (kept_row h.rows r)) ≤ view.from → 0 < length (kept_row h.rows r) → length packed ≤ length (kept_row h.rows r)
-      few below some =
-          let row = row_of (kept_row h.rows r) in
-          let at : row_at (rows_of h.rows) r ≡ row = row-alone h.rows r in
-          let fit = length-packed h.parameters.capacity 0 row was.passed.ranges.some_members
-          (λ u b. subst (λ (w : Row). CanStand h.parameters.capacity (bin_at (bins_at w u) b)) at (record { apart = was.sound.apart r u b; within = was.sound.within_capacity r u b })) in
-          let bins = length-map (packed_row h.parameters.capacity 0 (members_of_row row)) (λ (u : Stamped). u.bins) in
-          let long = length-map (kept_row h.rows r) (λ (k : Kept C). let u : Stamped = record { stamp = k.stamp; bins = k.bins } in u) in
-          omega (arith, ap length (same below some), bins, fit, long)
+      few below some = packed-fewer h r packed was (same below some)
+
+  -- what is packed from the row as it stands
+  pub packed-standing : (h : Contents C) (r from : ℕ) (packed : List (List (List Member))) → IsConsistent contents is_under h
+      → (greatest_stamp (row_of (kept_row h.rows r)) ≤ from → packed ≡ packed_bins h.parameters.capacity (row_of (kept_row h.rows r))) → IsPackedFor h r from packed
+  packed-standing h r from packed was is = record {
+    bundled = λ below some. is below;
+    fewer = λ below some. packed-fewer h r packed was (is below);
+  }

@@ -1,9 +1,10 @@
 //! The book.
-ghost use Rattle.std.specs.Prelude.{◌≡◌, ◌-◌, ◌≤◌, ◌<◌, ◌^◌, ◌↔◌, ℕ, length, min, IfOk, IfErr, IfSome, IsNone, IsErr, OnErr, OnOk, slice_index_or};
+ghost use Rattle.std.specs.Prelude.{◌≡◌, ◌-◌, ◌≤◌, ◌<◌, ◌^◌, ◌↔◌, ℕ, List, length, min, IfOk, IfErr, IfSome, IsNone, IsErr, OnErr, OnOk, slice_index_or};
 ghost use Rattle.psi_bundle.specs.Histories.{AreBytes};
 
 use crate::answers::{DropAnswer, ENTRIES, Placed, Put, Refusal, RepackAnswer};
 use crate::install::{Bare, Install};
+use crate::rows::newest;
 use crate::snapshot::Snapshot;
 use crate::state::State;
 use crate::task::{Task, bare_tasks};
@@ -47,7 +48,8 @@ impl<C: Cached + Drop> Book<C> {
     ghost use Rattle.psi_bundle.specs.declared.history.Call.TheVariants as Call;
     ghost use Rattle.psi_bundle.specs.declared.history.Answer.TheVariants.{Seen};
     ghost use Rattle.noise_ledger.specs.Verdicts.{ArePassed, parameters_of};
-    ghost use Rattle.psi_bundle.specs.Versions.{HasLabelLength};
+    ghost use Rattle.psi_bundle.specs.Steps.{step};
+    ghost use Rattle.psi_bundle.specs.Versions.{HasLabelLength, greatest_stamp};
     ghost use Rattle.sender_core.specs.Kept.{version_of, start_of, kept_row, row_of, empty_contents, IsAsBefore, IsConsistent, IsStep};
     ghost use Rattle.psi_residue.specs.Parameters.{parameter_bytes};
     ghost use Rattle.psi_bundle.specs.Shows.{packed_bins};
@@ -112,6 +114,25 @@ impl<C: Cached + Drop> Book<C> {
         &self.state.rows[row as usize]
     }
 
+    /// The greatest stamp of a row's bundles, 0 where it has none. Condition: the row is below the parameters' rows.
+    pub fn newest(&self, row: u8) -> u64
+        requires { row < self.now.parameters.rows }
+        ensures { result ≡ greatest_stamp (row_of (kept_row self.now.rows row)) }
+    {
+        newest(self.bundles(row))
+    }
+
+    /// Shows the bundles as they stand, with their caches, and the number of entries as the place. It adds no entry.
+    pub fn shown(&self, alloc: Global) -> Result<Snapshot<C>, AllocError>
+        ensures shown { IfOk result (λ snapshot. snapshot
+            ≡ record { place = length self.now.journal; rows = self.now.rows }) }
+        ensures rows { IfOk result (λ snapshot. length snapshot.rows
+            ≡ self.now.parameters.rows) }
+        ensures consistent { IsConsistent C.contents C.is_under self.now }
+    {
+        self.seen(alloc, self.count())
+    }
+
     /// Puts a tag with its label: it is the step of that call, and its entry is the next. Condition: the label has
     /// `10·units` bytes.
     ///
@@ -136,6 +157,15 @@ impl<C: Cached + Drop> Book<C> {
             Ok(answer) => Ok(Placed { answer, place }),
             Err(_) => Err(Refusal::NoMemory),
         }
+    }
+
+    /// What `put` would answer for this tag with any label of `10·units` bytes, were there room in the journal. The book
+    /// stays as it is, and it takes no memory.
+    pub fn would_put(&self, tag: &Tag) -> Put
+        ensures told { (label : List ℕ) → answer_of_put result
+            ≡ (step (version_of self.now) (Call.Put tag.now label)).answer }
+    {
+        self.state.would_put(tag)
     }
 
     /// Takes a tag out of the set: it is the step of that call, and its entry is the next.
@@ -234,12 +264,46 @@ impl<C: Cached + Drop> Book<C> {
         }
     }
 
+    /// Packs a row anew as a Repack with this `from` does, which may be any number: it is the step of that call, and its
+    /// entry is the next. Conditions: the row is below the parameters' rows, and where none of its bundles has
+    /// a stamp above `from`, `packed` is the first fit of its members as they stand.
+    ///
+    /// It has the refusals of `repack`.
+    pub fn repack_at(
+        &mut self,
+        alloc: Global,
+        row: u8,
+        from: u64,
+        packed: Vec<Bundle>,
+    ) -> Result<Placed<RepackAnswer>, Refusal>
+        requires in_range { row < self.old.parameters.rows }
+        requires packed { greatest_stamp (row_of (kept_row self.old.rows row)) ≤ from →
+            packed.items ≡ packed_bins self.old.parameters.capacity
+            (row_of (kept_row self.old.rows row)) }
+        ensures stepped { IfOk result (λ placed. IsStep self.old self.new (Call.Repack row from)
+            (answer_of_repack placed.answer)) }
+        ensures bare { IfOk result (λ placed.
+            LeavesBare placed.answer (kept_row self.new.rows row)) }
+        ensures place { IfOk result (λ placed. placed.place ≡ length self.old.journal) }
+        ensures full { length self.old.journal ≡ 2 ^ 20 → IsErr result }
+        ensures cause { IfErr result (λ refusal. refusal ≡ cause_at (length self.old.journal)) }
+        ensures kept { OnErr result (IsAsBefore self.old self.new) }
+        ensures full_kept { length self.old.journal ≡ 2 ^ 20 → self.new ≡ self.old }
+    {
+        let place = self.next_place()?;
+        match self.state.repack(alloc, row, from, packed) {
+            Ok(answer) => Ok(Placed { answer, place }),
+            Err(_) => Err(Refusal::NoMemory),
+        }
+    }
+
     /// A bundle without a cache: of all of them, by row and then bundle, the one with the number `skip` modulo their number.
     /// Where each bundle has a cache it is all bundles instead, with their caches. It adds no entry.
     pub fn fetch_bare(&self, alloc: Global, skip: u16) -> Result<Bare<C>, AllocError>
         ensures given { IfOk result (λ bare. IsBareOf self.now skip bare) }
         ensures of_history { IfOk result
             (λ bare. IsGivenOf (start_of self.now) self.now.journal bare) }
+        ensures consistent { IsConsistent C.contents C.is_under self.now }
     {
         let mut tasks = bare_tasks(alloc, &self.state.rows)?;
         if tasks.is_empty() {

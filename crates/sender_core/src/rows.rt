@@ -3,7 +3,9 @@
 //! Rows are changed in place, and an undo log keeps what stood where they changed. A call that is refused leaves the rows
 //! as they were, and no other bundle is copied.
 ghost use Rattle.std.specs.Prelude.{◌≡◌, ◌≤◌, ◌<◌, ◌+◌, ◌*◌, ℕ, List, [], ◌∷◌, ◌++◌, length, map, IfOk, IfSome, OnOk, OnErr, IsTrue, None, slice_set};
-ghost use Rattle.std.specs.List.{All, fold, position_from, sum};
+ghost use Rattle.std.specs.List.{All, fold, list_any, position_from, sum};
+ghost use Rattle.item_slots.specs.Tags.{bins_of_row};
+ghost use Rattle.std.specs.List.Sorted.{IsStrictlyIncreasing};
 ghost use Rattle.std.specs.Option.{option_map};
 ghost use Rattle.std.specs.Arc.{arc_value};
 ghost use Rattle.psi_bundle.specs.Bins.{accepts, holds, bin_at, empty_bins};
@@ -307,6 +309,44 @@ pub(crate) fn bundles<C>(rows: &[Vec<Shown<C>>]) -> u32
         bundles += row.len();
     }
     bundles as u32
+}
+
+// Whether some bundle of the row accepts the tag in the bin.
+fn has_room<C: Drop>(row: &[Shown<C>], bin: u16, tag: &Tag, capacity: u16) -> bool
+    requires { bin < bins_of_row }
+    ensures { result ≡ list_any (λ u. accepts capacity (bin_at u.bins bin) tag.now)
+        (row_of (kept_of_row row.now)) }
+{
+    accepting(row, bin, tag, capacity).is_some()
+}
+
+/// How many bundles first fit of the tag would add at these positions, which rise.
+pub(crate) fn grown<C: Drop>(
+    rows: &[Vec<Shown<C>>],
+    places: &[u16],
+    tag: &Tag,
+    capacity: u16,
+) -> u32
+    requires within { All (λ p. p < 819 * length rows.now) places.now }
+    requires rise { IsStrictlyIncreasing places.now }
+    requires some { 1 ≤ capacity }
+    requires few { length places.now ≤ 3 }
+    ensures number { (stamp : ℕ) (label : List ℕ) → sum (map (λ row. length row)
+        (fold (placed_at capacity stamp (record { tag = tag.now; label = label }))
+        (rows_of (kept_of_rows rows.now)) places.now))
+        ≡ bundles_of (kept_of_rows rows.now) + result }
+    ensures few { result ≤ 3 }
+{
+    let mut grown = 0;
+    let mut opened = 0;
+    for p in places {
+        let (row, bin) = ((*p / BINS) as usize, *p % BINS);
+        if opened != row + 1 && !has_room(&rows[row], bin, tag, capacity) {
+            grown += 1;
+            opened = row + 1;
+        }
+    }
+    grown
 }
 
 /// The greatest stamp of a row, 0 where it has no bundle.

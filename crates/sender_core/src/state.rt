@@ -1,11 +1,13 @@
 //! What a book consists of, the ways in which an entry changes it, and caches that come back.
-ghost use Rattle.std.specs.Prelude.{◌≡◌, ℕ, ◌-◌, ◌≤◌, ◌<◌, [], ◌∷◌, ◌++◌, true, false, length, min, IfOk, OnOk, OnErr, IsNone, replicate, is_some, slice_set};
+ghost use Rattle.std.specs.Prelude.{◌≡◌, ℕ, ◌-◌, ◌≤◌, ◌<◌, List, [], ◌∷◌, ◌++◌, true, false, length, min, IfOk, OnOk, OnErr, IsNone, replicate, is_some, slice_set};
 ghost use Rattle.sender_core.specs.Shown.{kept_of_rows};
 
 use crate::answers::{DropAnswer, ENTRIES, Put, RepackAnswer};
 use crate::install::Install;
 use crate::receipt::{Now, Receipt};
-use crate::rows::{Change, Edit, bundles, change_member, newest, place_member, put_cache, stamped};
+use crate::rows::{
+    Change, Edit, bundles, change_member, grown, newest, place_member, put_cache, stamped,
+};
 use crate::task::Task;
 use crate::undo::{Undo, roll_back};
 use item_slots::{Tag, positions};
@@ -102,6 +104,26 @@ impl<C: Drop> State<C> {
             self.replace(alloc, tag, label)
         } else {
             self.add(alloc, tag, label)
+        }
+    }
+
+    /// What a Put of this tag would answer.
+    pub(crate) fn would_put(&self, tag: &Tag) -> Put
+        requires { CanStep (contents_of self.now) }
+        ensures { (label : List ℕ) → answer_of_put result
+            ≡ (step (version_of (contents_of self.now)) (Call.Put tag.now label)).answer }
+    {
+        if self.labels.contains_key(tag) {
+            return Put::Replaced;
+        }
+        let places = positions(tag, self.params.rows);
+        let more = grown(&self.rows, places.list(), tag, self.params.capacity);
+        let planes = (bundles(&self.rows) + more) * (1 + u32::from(self.params.units));
+        let cells = planes * (u32::from(self.params.capacity) + 1);
+        if planes <= PLANES && cells <= CELLS {
+            Put::Added
+        } else {
+            Put::Full { planes, cells }
         }
     }
 

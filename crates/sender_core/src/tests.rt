@@ -146,6 +146,9 @@ fn assert_run(rt: &impl Abort, alloc: Global, capacity: u16, rows: &[Row]) {
         let tag = made_up(*made);
         let place = book.count();
         let puts = matches!(answer, Answered::Put(_));
+        if let Answered::Put(told) = answer {
+            assert_eq!(rt; book.would_put(&tag), *told);
+        }
         assert_eq!(rt; call(&mut book, alloc, puts, tag), Some((*answer, place)));
         assert_eq!(rt; book.label(&tag).is_some(), puts);
         assert!(rt; *bin < 819);
@@ -173,6 +176,9 @@ fn a_set_is_full_at_its_planes(rt: HostRuntime) {
         planes: 65,
         cells: 130,
     };
+    assert_eq!(rt; book.would_put(&made_up(([64; 5], [0; 3]))), full);
+    assert_eq!(rt; book.would_put(&made_up(([7; 5], [0; 3]))), Put::Replaced);
+    assert_eq!(rt; book.count(), 64);
     assert_eq!(rt;
         put(&mut book, alloc, made_up(([64; 5], [0; 3]))).ok(),
         Some((full, 64))

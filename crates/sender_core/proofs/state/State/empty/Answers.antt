@@ -1,10 +1,7 @@
-use Rattle.std.proofs.Common.{◌≡◌, ℕ, ◌-◌, List, [], replicate, ap, arith}
+use Rattle.std.proofs.Common.{◌≡◌, ◌-◌, arith}
 use Rattle.std.specs.Vec.{vec_len, vec_capacity}
 use Rattle.noise_ledger.specs.Verdicts.{parameters_of}
-use Rattle.psi_bundle.specs.declared.history.Entry.{Entry}
-use Rattle.sender_core.specs.Kept.{Kept, BookStart, Contents}
 use Rattle.sender_core.specs.Shown.{kept_of_rows}
-use Rattle.sender_core.specs.States.{contents_of}
 use Rattle.sender_core.proofs.Consistency.{start-empty}
 use Rattle.sender_core.proofs.state.State.empty.Goals as goal
 
